@@ -1,0 +1,5 @@
+pub mod Ascending
+pub mod Members
+pub mod AscendingLaws
+pub mod MergeLaws
+pub mod SortLaws

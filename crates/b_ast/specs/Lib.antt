@@ -1,0 +1,2 @@
+-- Definitions on trees.
+pub mod Sorts

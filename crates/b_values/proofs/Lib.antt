@@ -1,0 +1,9 @@
+pub mod ReadingBytes
+pub mod ReadingComplete
+pub mod ReadingLinks
+pub mod ReadingSize
+pub mod ReadingSound
+pub mod ReadingSteps
+pub mod ReadingTyped
+pub mod ReadingWhole
+pub mod TextRound

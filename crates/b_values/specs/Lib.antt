@@ -1,0 +1,13 @@
+pub mod Values
+pub mod Types
+pub mod Layers
+pub mod OrderLaws
+pub mod ValueLaws
+pub mod SizeLaws
+pub mod SameLaws
+pub mod Preferences
+pub mod TypeLaws
+pub mod Reading
+pub mod ReadingAnswers
+pub mod ReadingDescent
+pub mod Texts

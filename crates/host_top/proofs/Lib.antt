@@ -1,0 +1,14 @@
+pub mod Numbers
+pub mod Placing
+pub mod Listing
+pub mod Operations
+pub mod Writing
+pub mod Sessions
+pub mod Running
+pub mod Giving
+pub mod Fronts
+pub mod Tokens
+pub mod Steps
+pub mod MachineTextLaws
+pub mod CommandLaws
+pub mod Stopping

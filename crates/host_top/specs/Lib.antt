@@ -1,0 +1,12 @@
+pub mod Placed
+pub mod Machines
+pub mod Sessions
+pub mod Writing
+pub mod Taking
+pub mod ReservedWords
+pub mod MachineTexts
+pub mod Reading
+pub mod Asking
+pub mod Summary
+pub mod Runs
+pub mod Stops

@@ -1,0 +1,27 @@
+-- The reserved words of B.
+use Rattle.std.specs.Prelude.{ℕ, Bool, ◌||◌, List, [], ◌∷◌, codes}
+use Rattle.std.specs.List.{list_any}
+use Rattle.std.specs.Str.{bytes_eq}
+
+-- the reserved words that are read
+unfoldable pub words : List (List ℕ)
+words =
+    codes "or" ∷ codes "not" ∷ codes "mod" ∷ codes "POW" ∷ codes "POW1" ∷ codes "FIN" ∷ codes "FIN1" ∷ codes "UNION" ∷ codes "INTER" ∷ codes "SIGMA" ∷ codes "PI"
+    ∷ codes "union" ∷ codes "inter" ∷ codes "dom" ∷ codes "ran" ∷ codes "id" ∷ codes "prj1" ∷ codes "prj2" ∷ codes "iterate" ∷ codes "closure" ∷ codes "closure1"
+    ∷ codes "card" ∷ codes "min" ∷ codes "max" ∷ codes "succ" ∷ codes "pred" ∷ codes "bool" ∷ codes "seq" ∷ codes "seq1" ∷ codes "iseq" ∷ codes "perm" ∷ codes "size"
+    ∷ codes "first" ∷ codes "last" ∷ codes "front" ∷ codes "tail" ∷ codes "rev" ∷ codes "conc" ∷ codes "INTEGER" ∷ codes "NATURAL" ∷ codes "NATURAL1" ∷ codes "INT"
+    ∷ codes "NAT" ∷ codes "NAT1" ∷ codes "STRING" ∷ codes "BOOL" ∷ codes "TRUE" ∷ codes "FALSE" ∷ codes "MININT" ∷ codes "MAXINT" ∷ codes "skip" ∷ codes "BEGIN"
+    ∷ codes "PRE" ∷ codes "ASSERT" ∷ codes "CHOICE" ∷ codes "OR" ∷ codes "IF" ∷ codes "THEN" ∷ codes "ELSIF" ∷ codes "ELSE" ∷ codes "SELECT" ∷ codes "WHEN"
+    ∷ codes "CASE" ∷ codes "OF" ∷ codes "EITHER" ∷ codes "ANY" ∷ codes "WHERE" ∷ codes "LET" ∷ codes "BE" ∷ codes "IN" ∷ codes "END" ∷ codes "MACHINE" ∷ codes "SETS"
+    ∷ codes "CONSTANTS" ∷ codes "CONCRETE_CONSTANTS" ∷ codes "ABSTRACT_CONSTANTS" ∷ codes "PROPERTIES" ∷ codes "VARIABLES" ∷ codes "ABSTRACT_VARIABLES"
+    ∷ codes "CONCRETE_VARIABLES" ∷ codes "INVARIANT" ∷ codes "ASSERTIONS" ∷ codes "DEFINITIONS" ∷ codes "INITIALISATION" ∷ codes "OPERATIONS" ∷ []
+
+-- the reserved words that this profile of B leaves out
+unfoldable pub left_out_words : List (List ℕ)
+left_out_words =
+    codes "REFINEMENT" ∷ codes "IMPLEMENTATION" ∷ codes "REFINES" ∷ codes "INCLUDES" ∷ codes "SEES" ∷ codes "USES" ∷ codes "EXTENDS" ∷ codes "PROMOTES" ∷ codes "IMPORTS"
+    ∷ codes "CONSTRAINTS" ∷ codes "VALUES" ∷ codes "LOCAL_OPERATIONS" ∷ codes "VAR" ∷ codes "WHILE" ∷ codes "DO" ∷ codes "VARIANT" ∷ codes "rec" ∷ codes "struct" ∷ []
+
+-- whether this is a reserved word
+abbrev pub is_reserved : List ℕ → Bool
+is_reserved word = list_any (bytes_eq word) words || list_any (bytes_eq word) left_out_words
