@@ -1,0 +1,2 @@
+//! Sets of sets, of relations, of functions and of sequences.
+#![tactic(auto)]

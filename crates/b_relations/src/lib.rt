@@ -1,0 +1,2 @@
+//! Operators on relations and functions.
+#![tactic(auto)]

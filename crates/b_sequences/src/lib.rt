@@ -1,0 +1,2 @@
+//! Operators on sequences.
+#![tactic(auto)]

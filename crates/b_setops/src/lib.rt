@@ -1,0 +1,2 @@
+//! The operators on sets, relations and sequences under one name.
+#![tactic(auto)]

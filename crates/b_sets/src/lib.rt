@@ -1,0 +1,2 @@
+//! Operators on sets and on sets of numbers.
+#![tactic(auto)]

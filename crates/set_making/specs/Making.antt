@@ -1,0 +1,19 @@
+-- What an operator on sets answers: the set with given members, or the fault.
+use Rattle.std.specs.Prelude.{◌≡◌, List, Result, Ok, Err}
+use Rattle.ascending.specs.Ascending.{set_of}
+use Rattle.b_values.specs.Values.{limited, value_cmp}
+use Rattle.b_values.specs.declared.values.FaultKind.{FaultKind}
+use Rattle.b_values.specs.declared.values.Value.{Value}
+use Rattle.b_values.specs.declared.values.Value.TheVariants.{Set}
+use Rattle.set_making.specs.declared.OpFault.{OpFault}
+use Rattle.set_making.specs.declared.OpFault.TheVariants.{Fault, Memory}
+
+-- the set with these members, or the fault where it has too many nodes
+abbrev pub set_with : List Value → Result Value FaultKind
+set_with xs = limited (Set (set_of value_cmp xs))
+
+-- the value or the fault of an operator's row, unless memory ran out
+abbrev pub Answers : Result Value FaultKind → Result Value OpFault → Type 0
+Answers row (Ok v) = row ≡ Ok v
+Answers row (Err (Fault k)) = row ≡ Err k
+Answers row (Err Memory) = Unit {0}
