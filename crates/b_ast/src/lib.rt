@@ -3,11 +3,14 @@
 
 use sqlite_items::{Boxed, Items};
 
-/// A place in a text: a byte offset, in the machine's text or in a formula's own.
+/// A place in a text: a byte offset, in the machine's text or in a formula's own, and how many brackets are open there,
+/// the one counted that opens there. The count is from the beginning of the text, of the body of a definition or, once
+/// definitions are expanded, of the expanded text.
 #[derive(Clone, Copy, Debug, PartialEq, Eq)]
 pub struct Place {
     pub machine: bool,
     pub at: u64,
+    pub depth: u64,
 }
 
 /// A constant word.
@@ -292,6 +295,7 @@ mod tests {
     const HERE: Place = Place {
         machine: false,
         at: 0,
+        depth: 0,
     };
 
     // 1 operator 2

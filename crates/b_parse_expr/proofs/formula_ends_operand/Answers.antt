@@ -1,6 +1,0 @@
--- By the forms of the grammar.
-use Rattle.b_parse_expr.proofs.Endings.{formula_ends}
-use Rattle.b_parse_expr.proofs.formula_ends_operand.Goals as goal
-
-pub returns : goal.returns
-returns c = formula_ends

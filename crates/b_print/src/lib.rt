@@ -1,0 +1,2 @@
+//! Canonical texts of formulas.
+#![tactic(auto)]
