@@ -2,3 +2,4 @@ pub mod Making
 pub mod Sums
 pub mod MakingLaws
 pub mod MergePlaces
+pub mod Gathered
