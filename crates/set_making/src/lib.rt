@@ -10,10 +10,12 @@ ghost use Rattle.set_making.specs.Making as spec;
 ghost use Rattle.set_making.specs.Making.{Answers};
 
 mod gathering;
+mod growing;
 mod merging;
 
 use b_values::{FaultKind, Value, is_member, limited, make_set};
 pub use gathering::Gathering;
+pub use growing::Growing;
 pub use merging::merge;
 use shared::Shared;
 use sqlite_items::Items;
