@@ -3,3 +3,4 @@ pub mod Sums
 pub mod MakingLaws
 pub mod MergePlaces
 pub mod Gathered
+pub mod ListMembers
