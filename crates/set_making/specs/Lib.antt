@@ -1,1 +1,6 @@
 pub mod Making
+pub mod Sums
+pub mod MakingLaws
+pub mod MergePlaces
+pub mod Gathered
+pub mod ListMembers
