@@ -1,3 +1,5 @@
 pub mod Sequences
 pub mod Rows
 pub mod SequenceLaws
+pub mod RowsKept
+pub mod RowsByLists

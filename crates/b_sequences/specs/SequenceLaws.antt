@@ -1,5 +1,4 @@
 -- The laws of sequences and their lists.
-use borrow.Author.Tests.{leb-true}
 use Rattle.std.proofs.Common.{◌≡◌, ◌↔◌, ℕ, zero, suc, ◌+◌, ◌-◌, ◌*◌, ◌<◌, ◌≤◌, pos, ◌<ℤ◌, Bool, true, false, IsTrue, List, [], ◌∷◌, ◌++◌, length, take, drop, map, sum, Option, Some, None, Result, Ok, Err, arith, refl, sym, ap, ◌∙◌, subst, add-one, append_assoc}
 use Rattle.std.specs.Prelude.{slice_get, if◌then◌else◌, reverse}
 use Rattle.std.specs.Option.{option_map}

@@ -1,5 +1,5 @@
 -- Sequences: the sequence of a list of values, and the list of a sequence.
-use Rattle.std.specs.Prelude.{◌≡◌, List, Option, Some, None, if◌then◌else◌}
+use Rattle.std.specs.Prelude.{◌≡◌, List, ◌∷◌, Option, Some, None, if◌then◌else◌}
 use Rattle.std.specs.List.{filter_map}
 use Rattle.b_values.specs.Reading.{numbered}
 use Rattle.b_values.specs.Values.{elements, same_value}
@@ -31,3 +31,7 @@ seconds xs = filter_map second xs
 -- the second parts of a value's couples, where it is the sequence of them
 unfoldable pub as_sequence : Value → Option (List Value)
 as_sequence v = if same_value v (sequence_of (seconds (elements v))) then Some (seconds (elements v)) else None
+
+-- the value is the sequence of a list that has an element
+abbrev pub IsNonempty : Value → Type 0
+IsNonempty v = (x : Value) × ((xs : List Value) × (v ≡ sequence_of (x ∷ xs)))
