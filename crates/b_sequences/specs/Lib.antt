@@ -3,3 +3,5 @@ pub mod Rows
 pub mod SequenceLaws
 pub mod RowsKept
 pub mod RowsByLists
+pub mod Numbering
+pub mod Joining

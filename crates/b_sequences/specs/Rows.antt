@@ -1,5 +1,5 @@
 -- What each operator on sequences answers, a row each.
-use Rattle.std.specs.Prelude.{ℕ, ◌-◌, pos, Bool, List, [], ◌∷◌, ◌++◌, Option, Some, None, Result, Ok, Err, if◌then◌else◌, nat_le, length, reverse, take, drop, slice_get, is_some, unwrap_or, option_and_then}
+use Rattle.std.specs.Prelude.{ℕ, ◌-◌, ℤ, pos, negsuc, Bool, List, [], ◌∷◌, ◌++◌, Option, Some, None, Result, Ok, Err, if◌then◌else◌, nat_le, length, reverse, take, drop, slice_get, is_some, unwrap_or, option_and_then}
 use Rattle.std.specs.Option.{ok_or, option_map}
 use Rattle.std.specs.List.{list_all, flat_map}
 use Rattle.b_values.specs.Values.{limited}
@@ -65,9 +65,14 @@ prepend_row x s = sequence_answer (option_map (λ xs. x ∷ xs) (as_sequence s))
 abbrev pub append_row : Value → Value → Result Value FaultKind
 append_row s x = sequence_answer (option_map (λ xs. xs ++ x ∷ []) (as_sequence s))
 
--- the number, where the layer is one from 0 to the limit
+-- the number, where it is from 0 to the limit
+abbrev pub index_within : ℕ → ℤ → Option ℕ
+index_within limit (pos n) = if nat_le n limit then Some n else None
+index_within limit (negsuc n) = None
+
+-- the same, where the layer is a number
 abbrev pub number_within : {X : Type 0} → ℕ → Value-F X → Option ℕ
-number_within limit (Value-F.Int (pos n)) = if nat_le n limit then Some n else None
+number_within limit (Value-F.Int n) = index_within limit n
 number_within limit x = None
 
 -- s /|\ n
