@@ -1,16 +1,15 @@
 -- What the couples of a sequence give: its list, cut, turned and joined.
-use Rattle.std.proofs.Common.{◌≡◌, ℕ, suc, ◌+◌, ◌-◌, ◌≤◌, ◌<◌, pos, Bool, true, false, ◌&&◌, List, [], ◌∷◌, ◌++◌, length, take, drop, Option, Some, None, Result, Ok, Err, arith, refl, sym, ap, ◌∙◌, subst}
-use Rattle.std.specs.Prelude.{slice_get, reverse, option_and_then, IfOk}
+use Rattle.std.proofs.Common.{◌≡◌, ℕ, suc, ◌+◌, ◌-◌, ◌<◌, pos, List, [], ◌∷◌, ◌++◌, length, take, drop, Option, Some, None, Result, Ok, Err, arith, refl, sym, ap, ◌∙◌}
+use Rattle.std.specs.Prelude.{slice_get, option_and_then, IfOk}
 use Rattle.std.specs.declared.alloc.AllocError.{AllocError}
 use Rattle.std.specs.Option.{option_map}
 use Rattle.b_values.specs.Reading.{numbered}
 use Rattle.b_values.specs.declared.values.Value.{Value}
 use Rattle.b_values.specs.declared.values.Value.TheVariants.{Int, Pair}
 use Rattle.b_sequences.specs.Sequences.{second, seconds, as_sequence}
-use Rattle.b_sequences.specs.SequenceLaws.{second-Pair, seconds-numbered, length-numbered, numbered-append, take-numbered, seconds-drop, get-numbered}
+use Rattle.b_sequences.specs.SequenceLaws.{second-Pair, length-numbered, numbered-append, take-numbered, seconds-drop, get-numbered}
 use Rattle.b_sequences.specs.Rows.{all_but_last, all_but_first}
 use Rattle.b_sequences.specs.Numbering.{AreNumbered, HasCouples}
-use Rattle.b_sequences.proofs.Numbered.{seconds-reverse}
 
 -- there are as many couples as elements
 pub couples_length : (cs : List Value) → AreNumbered cs → length cs ≡ length (seconds cs)
@@ -52,7 +51,7 @@ pub two_lists : (s t : Value) (cs ds all : List Value) → HasCouples s cs → H
 two_lists s t cs ds all h k e =
     ap Some (e ∙ both_numbered cs (seconds ds) h.couples)
     ∙ sym (ap (λ o. option_map (numbered 1) (option_and_then (λ xs. option_map (λ ys. xs ++ ys) (as_sequence t)) o)) h.list
-      ∙ ap (λ o. option_map (numbered 1) (option_map (λ ys. seconds cs ++ ys) o)) k.list)
+    ∙ ap (λ o. option_map (numbered 1) (option_map (λ ys. seconds cs ++ ys) o)) k.list)
 
 -- the first couples are those of the first elements
 pub front_numbered : (n : ℕ) (cs : List Value) → AreNumbered cs → take n cs ≡ numbered 1 (take n (seconds cs))

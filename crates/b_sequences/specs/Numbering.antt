@@ -1,5 +1,5 @@
 -- What the functions below the calls ensure: the couples of a sequence as they stand in its set.
-use Rattle.std.specs.Prelude.{◌≡◌, ℕ, ℤ, pos, Bool, false, List, Option, Some}
+use Rattle.std.specs.Prelude.{◌≡◌, ℕ, pos, Bool, false, List, Some}
 use Rattle.std.specs.Ordering.{int_eq}
 use Rattle.b_values.specs.Reading.{numbered}
 use Rattle.b_values.specs.declared.values.Value.{Value, out-Value}

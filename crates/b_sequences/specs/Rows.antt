@@ -1,5 +1,5 @@
 -- What each operator on sequences answers, a row each.
-use Rattle.std.specs.Prelude.{ℕ, ◌-◌, ℤ, pos, negsuc, Bool, List, [], ◌∷◌, ◌++◌, Option, Some, None, Result, Ok, Err, if◌then◌else◌, nat_le, length, reverse, take, drop, slice_get, is_some, unwrap_or, option_and_then}
+use Rattle.std.specs.Prelude.{ℕ, ◌-◌, ℤ, pos, negsuc, Bool, List, [], ◌∷◌, ◌++◌, Option, Some, None, Result, Err, if◌then◌else◌, nat_le, length, reverse, take, drop, slice_get, is_some, unwrap_or, option_and_then}
 use Rattle.std.specs.Option.{ok_or, option_map}
 use Rattle.std.specs.List.{list_all, flat_map}
 use Rattle.b_values.specs.Values.{limited}

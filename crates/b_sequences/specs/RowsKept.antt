@@ -1,13 +1,13 @@
 -- What the operators on sequences answer may be kept, where their operands may be.
-use Rattle.std.proofs.Common.{◌≡◌, ℕ, zero, suc, ◌+◌, ◌-◌, ◌≤◌, pos, Bool, true, false, ◌&&◌, List, [], ◌∷◌, ◌++◌, length, take, drop, Option, Some, None, Result, Ok, Err, arith, refl, sym, ap, ◌∙◌, subst}
-use Rattle.std.specs.Prelude.{slice_get, if◌then◌else◌, reverse, IfOk, unwrap_or, is_some, option_and_then}
+use Rattle.std.proofs.Common.{◌≡◌, ℕ, zero, suc, ◌+◌, ◌-◌, pos, Bool, true, false, List, [], ◌∷◌, ◌++◌, length, take, drop, Option, Some, None, Result, Ok, Err, arith, refl, sym, ap, ◌∙◌, subst}
+use Rattle.std.specs.Prelude.{slice_get, if◌then◌else◌, reverse, IfOk, unwrap_or, option_and_then}
 use Rattle.std.specs.Option.{option_map}
 use Rattle.std.specs.List.{AllByRecursion, list_all, flat_map}
 use Rattle.std.proofs.lemmas.List.{take-append-drop, reverse-append}
 use Rattle.ascending.specs.Members.{all_append, all_front, all_back}
 use Rattle.b_values.specs.SizeLaws.{count-Int}
 use Rattle.b_values.specs.ValueLaws.{is_int, limited_kept}
-use Rattle.b_values.specs.Values.{IsValue, IsKept, limited, node_count}
+use Rattle.b_values.specs.Values.{IsValue, IsKept, node_count}
 use Rattle.b_values.specs.declared.values.FaultKind.{FaultKind}
 use Rattle.b_values.specs.declared.values.Value.{Value, out-Value}
 use Rattle.b_values.specs.declared.values.Value.TheVariants.{Int}

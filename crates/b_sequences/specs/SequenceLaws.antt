@@ -1,14 +1,14 @@
 -- The laws of sequences and their lists.
-use Rattle.std.proofs.Common.{◌≡◌, ◌↔◌, ℕ, zero, suc, ◌+◌, ◌-◌, ◌*◌, ◌<◌, ◌≤◌, pos, ◌<ℤ◌, Bool, true, false, IsTrue, List, [], ◌∷◌, ◌++◌, length, take, drop, map, sum, Option, Some, None, Result, Ok, Err, arith, refl, sym, ap, ◌∙◌, subst, add-one, append_assoc}
-use Rattle.std.specs.Prelude.{slice_get, if◌then◌else◌, reverse}
+use Rattle.std.proofs.Common.{◌≡◌, ℕ, zero, suc, ◌+◌, ◌<◌, ◌≤◌, pos, ◌<ℤ◌, Bool, true, false, List, [], ◌∷◌, ◌++◌, length, take, drop, map, sum, Option, Some, None, arith, refl, sym, ap, ◌∙◌}
+use Rattle.std.specs.Prelude.{slice_get, if◌then◌else◌}
 use Rattle.std.specs.Option.{option_map}
 use Rattle.std.specs.Ordering.{int_cmp, ordering_then}
 use Rattle.std.specs.declared.cmp.Ordering.TheVariants.{Less}
-use Rattle.std.specs.List.{filter_map, cons_option, AllByRecursion}
+use Rattle.std.specs.List.{cons_option, AllByRecursion}
 use Rattle.std.proofs.lemmas.Int.{ints}
 use Rattle.std.proofs.lemmas.List.Sums.{sum_by-cons}
 use Rattle.std.specs.Cmp.{int_cmp_is}
-use Rattle.ascending.specs.Ascending.{In, IsAscending}
+use Rattle.ascending.specs.Ascending.{IsAscending}
 use Rattle.ascending.specs.AscendingLaws.{AllAbove, ascending_none, ascending_cons}
 use Rattle.b_values.specs.OrderLaws.{cmp-Int, cmp-Pair}
 use Rattle.b_values.specs.Reading.{numbered}
@@ -16,8 +16,8 @@ use Rattle.b_values.specs.SameLaws.{value_decides}
 use Rattle.b_values.specs.SizeLaws.{count-Int, count-Pair, count-Set}
 use Rattle.b_values.specs.ValueLaws.{is_int, is_couple, is_set, couple_parts, set_members, elements-Set}
 use Rattle.b_values.specs.Values.{IsValue, value_cmp, same_value, node_count, elements}
-use Rattle.b_values.specs.declared.values.Value.{Value, out-Value}
-use Rattle.b_values.specs.declared.values.Value.TheVariants.{Int, Pair, Set, outs-Pair}
+use Rattle.b_values.specs.declared.values.Value.{Value}
+use Rattle.b_values.specs.declared.values.Value.TheVariants.{Int, Pair, outs-Pair}
 use Rattle.b_sequences.specs.Sequences.{sequence_of, second, second_of, seconds, as_sequence, IsSequence}
 
 -- ---- numbered couples

@@ -12,7 +12,10 @@ use sqlite_items::Items;
 use std::alloc::{AllocError, Global};
 
 /// The sequence with these couples, where there are some.
-pub(crate) fn answer_sequence(alloc: Global, couples: Result<Option<Items<Value>>, AllocError>) -> Result<Value, OpFault>
+pub(crate) fn answer_sequence(
+    alloc: Global,
+    couples: Result<Option<Items<Value>>, AllocError>,
+) -> Result<Value, OpFault>
     ensures { (list : Option (List Value)) → IfOk couples (λ cs. cs ≡ option_map (numbered 1) list) → Answers (sequence_answer list) result }
 {
     match couples {

@@ -85,7 +85,11 @@ fn part_of(couple: &Value) -> Result<Option<Value>, AllocError>
 }
 
 /// The first `n` couples, shared.
-pub(crate) fn front_of(alloc: Global, couples: &[Value], n: usize) -> Result<Items<Value>, AllocError>
+pub(crate) fn front_of(
+    alloc: Global,
+    couples: &[Value],
+    n: usize,
+) -> Result<Items<Value>, AllocError>
     requires { n ≤ length couples.now }
     ensures { IfOk result (λ front. front ≡ take n couples.now) }
 {
@@ -113,7 +117,11 @@ pub(crate) fn turned(alloc: Global, couples: &[Value]) -> Result<Items<Value>, A
 }
 
 /// Puts the second parts of more couples at the end, with the next numbers.
-pub(crate) fn push_parts(alloc: Global, all: &mut Items<Value>, more: &[Value]) -> Result<(), AllocError>
+pub(crate) fn push_parts(
+    alloc: Global,
+    all: &mut Items<Value>,
+    more: &[Value],
+) -> Result<(), AllocError>
     ensures { OnOk result (all.new ≡ all.old ++ numbered (length all.old + 1) (seconds more.now)) }
 {
     for couple in more {
@@ -133,7 +141,11 @@ fn push_second(alloc: Global, all: &mut Items<Value>, couple: &Value) -> Result<
 }
 
 /// Puts a couple with the next number and this part at the end.
-pub(crate) fn push_part(alloc: Global, all: &mut Items<Value>, part: Shared<Value>) -> Result<(), AllocError>
+pub(crate) fn push_part(
+    alloc: Global,
+    all: &mut Items<Value>,
+    part: Shared<Value>,
+) -> Result<(), AllocError>
     ensures { OnOk result (all.new ≡ all.old ++ Pair (Int (pos (length all.old + 1))) part ∷ []) }
 {
     let n = all.as_slice().len() as u64 + 1;
@@ -143,8 +155,5 @@ pub(crate) fn push_part(alloc: Global, all: &mut Items<Value>, part: Shared<Valu
 fn couple_at(alloc: Global, n: u64, part: Shared<Value>) -> Result<Value, AllocError>
     ensures { IfOk result (λ v. v ≡ Pair (Int (pos n)) part) }
 {
-    Ok(Value::Pair(
-        Shared::new(alloc, Value::Int(i128::from(n)))?,
-        part,
-    ))
+    Ok(Value::Pair(Shared::new(alloc, Value::Int(i128::from(n)))?, part))
 }

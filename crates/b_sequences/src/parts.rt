@@ -183,7 +183,11 @@ fn taken_couples(alloc: Global, s: &Value, n: &Value) -> Result<Option<Items<Val
     }
 }
 
-fn first_couples(alloc: Global, couples: &[Value], n: &Value) -> Result<Option<Items<Value>>, AllocError>
+fn first_couples(
+    alloc: Global,
+    couples: &[Value],
+    n: &Value,
+) -> Result<Option<Items<Value>>, AllocError>
     requires { AreNumbered couples.now }
     ensures { IfOk result (λ cs. cs ≡ option_map (numbered 1)
         (option_map (λ k. take k (seconds couples.now)) (spec.number_within (length couples.now) (out-Value n.now)))) }
@@ -203,7 +207,11 @@ fn left_couples(alloc: Global, s: &Value, n: &Value) -> Result<Option<Items<Valu
     }
 }
 
-fn later_couples(alloc: Global, couples: &[Value], n: &Value) -> Result<Option<Items<Value>>, AllocError>
+fn later_couples(
+    alloc: Global,
+    couples: &[Value],
+    n: &Value,
+) -> Result<Option<Items<Value>>, AllocError>
     requires { AreNumbered couples.now }
     ensures { IfOk result (λ cs. cs ≡ option_map (numbered 1)
         (option_map (λ k. drop k (seconds couples.now)) (spec.number_within (length couples.now) (out-Value n.now)))) }

@@ -86,7 +86,7 @@ enum One {
     Tail,
 }
 
-fn one(alloc: Global, call: One, s: &Value) -> Result<Value, OpFault>
+fn called(alloc: Global, call: One, s: &Value) -> Result<Value, OpFault>
     requires { IsKept s.now }
 {
     match call {
@@ -101,7 +101,7 @@ fn one(alloc: Global, call: One, s: &Value) -> Result<Value, OpFault>
 
 fn one_row(rt: &impl Abort, alloc: Global, call: One, text: &str, want: &str) -> Result<(), Fail> {
     let s = numbers(alloc, text)?;
-    let answer = shown(alloc, one(alloc, call, &s))?;
+    let answer = shown(alloc, called(alloc, call, &s))?;
     assert_eq!(rt; answer.as_slice(), want.as_bytes(), "{call:?} of {text}");
     Ok(())
 }
@@ -134,22 +134,43 @@ fn one_operand(rt: HostRuntime) -> Result<(), Fail> {
 #[test]
 fn no_sequences(rt: HostRuntime) -> Result<(), Fail> {
     let alloc = rt.alloc();
-    let texts = ["{(1|->5),(3|->6)}", "{(1|->5),(1|->6)}", "{(0|->5),(1|->6)}", "{(2|->5)}"];
+    let texts = [
+        "{(1|->5),(3|->6)}",
+        "{(1|->5),(1|->6)}",
+        "{(0|->5),(1|->6)}",
+        "{(2|->5)}",
+    ];
     for text in texts {
-        for call in [One::Size, One::Rev, One::First, One::Last, One::Front, One::Tail] {
+        for call in [
+            One::Size,
+            One::Rev,
+            One::First,
+            One::Last,
+            One::Front,
+            One::Tail,
+        ] {
             one_row(&rt, alloc, call, text, "IllDefined")?;
         }
     }
     let set = read(alloc, &Ty::Set(Boxed::new(alloc, Ty::Int)?), "{1,2}")?;
     assert!(rt; !is_sequence(&set));
-    assert_eq!(rt; shown(alloc, size(alloc, &set))?.as_slice(), b"IllDefined".as_slice());
+    assert_eq!(rt;
+        shown(alloc, size(alloc, &set))?.as_slice(),
+        b"IllDefined".as_slice()
+    );
     let five = number(alloc, "5")?;
     assert!(rt; !is_sequence(&five));
     assert!(rt; is_sequence(&numbers(alloc, "[5,6]")?));
     Ok(())
 }
 
-fn join_row(rt: &impl Abort, alloc: Global, left: &str, right: &str, want: &str) -> Result<(), Fail> {
+fn join_row(
+    rt: &impl Abort,
+    alloc: Global,
+    left: &str,
+    right: &str,
+    want: &str,
+) -> Result<(), Fail> {
     let s = numbers(alloc, left)?;
     let t = numbers(alloc, right)?;
     let answer = shown(alloc, concat(alloc, &s, &t))?;
@@ -173,7 +194,14 @@ fn joins(rt: HostRuntime) -> Result<(), Fail> {
     Ok(())
 }
 
-fn element_row(rt: &impl Abort, alloc: Global, x: &str, s: &str, before: &str, after: &str) -> Result<(), Fail> {
+fn element_row(
+    rt: &impl Abort,
+    alloc: Global,
+    x: &str,
+    s: &str,
+    before: &str,
+    after: &str,
+) -> Result<(), Fail> {
     let x = number(alloc, x)?;
     let s = numbers(alloc, s)?;
     let answer = shown(alloc, prepend(alloc, &x, &s))?;
@@ -187,7 +215,12 @@ fn element_row(rt: &impl Abort, alloc: Global, x: &str, s: &str, before: &str, a
 fn elements_put_at_an_end(rt: HostRuntime) -> Result<(), Fail> {
     let alloc = rt.alloc();
     let rows = [
-        ("4", "[5,6]", "{(1|->4),(2|->5),(3|->6)}", "{(1|->5),(2|->6),(3|->4)}"),
+        (
+            "4",
+            "[5,6]",
+            "{(1|->4),(2|->5),(3|->6)}",
+            "{(1|->5),(2|->6),(3|->4)}",
+        ),
         ("4", "<>", "{(1|->4)}", "{(1|->4)}"),
         ("4", "{(0|->5)}", "IllDefined", "IllDefined"),
     ];
@@ -197,7 +230,14 @@ fn elements_put_at_an_end(rt: HostRuntime) -> Result<(), Fail> {
     Ok(())
 }
 
-fn cut_row(rt: &impl Abort, alloc: Global, s: &str, n: &str, begin: &str, rest: &str) -> Result<(), Fail> {
+fn cut_row(
+    rt: &impl Abort,
+    alloc: Global,
+    s: &str,
+    n: &str,
+    begin: &str,
+    rest: &str,
+) -> Result<(), Fail> {
     let s = numbers(alloc, s)?;
     let n = number(alloc, n)?;
     let answer = shown(alloc, take(alloc, &s, &n))?;
@@ -263,10 +303,22 @@ fn the_limit(rt: HostRuntime) -> Result<(), Fail> {
     }
     let more = take(alloc, &s, &number(alloc, "71189")?)?;
     let whole = concat(alloc, &s, &more)?;
-    assert_eq!(rt; shown(alloc, size(alloc, &whole))?.as_slice(), b"333333".as_slice());
-    assert_eq!(rt; shown(alloc, append(alloc, &whole, &number(alloc, "7")?))?.as_slice(), b"TooLarge".as_slice());
-    assert_eq!(rt; shown(alloc, prepend(alloc, &number(alloc, "7")?, &whole))?.as_slice(), b"TooLarge".as_slice());
-    assert_eq!(rt; shown(alloc, doubled(alloc, s))?.as_slice(), b"TooLarge".as_slice());
+    assert_eq!(rt;
+        shown(alloc, size(alloc, &whole))?.as_slice(),
+        b"333333".as_slice()
+    );
+    assert_eq!(rt;
+        shown(alloc, append(alloc, &whole, &number(alloc, "7")?))?.as_slice(),
+        b"TooLarge".as_slice()
+    );
+    assert_eq!(rt;
+        shown(alloc, prepend(alloc, &number(alloc, "7")?, &whole))?.as_slice(),
+        b"TooLarge".as_slice()
+    );
+    assert_eq!(rt;
+        shown(alloc, doubled(alloc, s))?.as_slice(),
+        b"TooLarge".as_slice()
+    );
     assert!(rt; rev(alloc, &whole)? == whole);
     Ok(())
 }

@@ -1,4 +1,4 @@
-use Rattle.std.proofs.Common.{◌≡◌, false, true, sym, ap, ◌∙◌}
+use Rattle.std.proofs.Common.{false, true, sym, ◌∙◌}
 use Rattle.b_sequences.proofs.Numbered.{count_up_tells, count_up_stops, count_up_ends}
 use Rattle.b_sequences.proofs.numbering.are_numbered.Goals as goal
 

@@ -1,4 +1,4 @@
-use Rattle.std.proofs.Common.{◌≡◌, refl, sym, ap, ◌∙◌}
+use Rattle.std.proofs.Common.{refl, ◌∙◌}
 use Rattle.b_sequences.specs.SequenceLaws.{as_sequence_none}
 use Rattle.b_sequences.proofs.Numbered.{numbered_set, unnumbered_set}
 use Rattle.b_sequences.proofs.numbering.couples_of.Goals as goal

@@ -1,4 +1,4 @@
-use Rattle.std.proofs.Common.{◌≡◌, Some, pos, length, sym, ap, ◌∙◌}
+use Rattle.std.proofs.Common.{Some, pos, length, sym, ap, ◌∙◌}
 use Rattle.std.specs.Option.{option_map}
 use Rattle.b_values.specs.declared.values.Value.TheVariants.{Int}
 use Rattle.b_sequences.proofs.Steps.{couples_length}
