@@ -133,9 +133,9 @@ fn couples_before(alloc: Global, s: &Value, x: &Value) -> Result<Option<Items<Va
 fn before_part(alloc: Global, couples: &[Value], x: &Value) -> Result<Items<Value>, AllocError>
     ensures { IfOk result (λ all. all ≡ couples.now ++ numbered (length couples.now + 1) (x.now ∷ [])) }
 {
-    let mut all = share_all(alloc, couples)?;
-    push_part(alloc, &mut all, Shared::new(alloc, x.share()?)?)?;
-    Ok(all)
+    let mut before = share_all(alloc, couples)?;
+    push_part(alloc, &mut before, Shared::new(alloc, x.share()?)?)?;
+    Ok(before)
 }
 
 fn couples_of_all(alloc: Global, s: &Value) -> Result<Option<Items<Value>>, AllocError>

@@ -109,11 +109,11 @@ pub(crate) fn renumbered(alloc: Global, couples: &[Value]) -> Result<Items<Value
 pub(crate) fn turned(alloc: Global, couples: &[Value]) -> Result<Items<Value>, AllocError>
     ensures { IfOk result (λ all. all ≡ numbered 1 (seconds (reverse couples.now))) }
 {
-    let mut all = Items::new(alloc);
+    let mut back = Items::new(alloc);
     for couple in couples.iter().rev() {
-        push_second(alloc, &mut all, couple)?;
+        push_second(alloc, &mut back, couple)?;
     }
-    Ok(all)
+    Ok(back)
 }
 
 /// Puts the second parts of more couples at the end, with the next numbers.

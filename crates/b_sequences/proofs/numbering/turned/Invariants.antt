@@ -6,4 +6,4 @@ use Rattle.b_sequences.proofs.numbering.turned.Given as goal
 
 abbrev pub invariant-loop-couple : goal.invariant-loop-couple
 invariant-loop-couple l =
-    l.all ++ numbered (length l.all + 1) (seconds (reverse l.couple-iterator.iter.rest.now)) ≡ numbered 1 (seconds (reverse l.couples))
+    l.back ++ numbered (length l.back + 1) (seconds (reverse l.couple-iterator.iter.rest.now)) ≡ numbered 1 (seconds (reverse l.couples))
