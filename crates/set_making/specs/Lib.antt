@@ -1,1 +1,4 @@
 pub mod Making
+pub mod Sums
+pub mod MakingLaws
+pub mod MergePlaces
