@@ -8,8 +8,10 @@ use Rattle.b_values.specs.Values.{elements, same_value}
 use Rattle.b_values.specs.declared.values.Value.{Value}
 use Rattle.b_values.specs.declared.values.Value.TheVariants.{Pair}
 use Rattle.b_relations.specs.Listed.{in_map, in_filter, in_flat_map}
-use Rattle.b_relations.specs.CoupleLaws.{same_parts, in_couples, in_couple_map, among, not_among}
-use Rattle.b_relations.specs.Relations.{is_among, couple, couples, Relates, InDomain, InRange, composed, dom_members, ran_members, converse_members, identity_members, image_members, dom_restrict_members, dom_subtract_members, ran_restrict_members, ran_subtract_members, overwrite_members, compose_members, direct_members, parallel_members, prj1_members, prj2_members}
+use Rattle.b_relations.specs.CoupleLaws.{same_parts, in_couples, in_couple_map, not_among}
+use Rattle.set_making.specs.Making.{is_among}
+use Rattle.set_making.specs.MakingLaws.{is_among_finds}
+use Rattle.b_relations.specs.Relations.{couple, couples, Relates, InDomain, InRange, composed, dom_members, ran_members, converse_members, identity_members, image_members, dom_restrict_members, dom_subtract_members, ran_restrict_members, ran_subtract_members, overwrite_members, compose_members, direct_members, parallel_members, prj1_members, prj2_members}
 
 -- a pair of values is a couple of the relation where it relates them
 pub related : (r x y : Value) → In (x, y) (couples r) ↔ Relates r x y
@@ -57,9 +59,9 @@ pub in_image : (r s y : Value) → In y (image_members r s) ↔ ((x : Value) × 
 in_image r s y = (
   λ h. let k = (in_map (λ (p : Value × Value). p.1) _ y).0 h in
       let f = (in_filter (λ (p : Value × Value). is_among (elements s) p.0) (couples r) k.0).0 k.1 in
-      (k.0.0, (among (elements s) k.0.0).0 f.1, subst (λ w. Relates r k.0.0 w) (sym k.2) ((related r k.0.0 k.0.1).0 f.0)),
+      (k.0.0, (is_among_finds (elements s) k.0.0).0 f.1, subst (λ w. Relates r k.0.0 w) (sym k.2) ((related r k.0.0 k.0.1).0 f.0)),
   λ h. (in_map (λ (p : Value × Value). p.1) _ y).1
-      ((h.0, y), (in_filter (λ (p : Value × Value). is_among (elements s) p.0) (couples r) (h.0, y)).1 ((related r h.0 y).1 h.2, (among (elements s) h.0).1 h.1), refl),
+      ((h.0, y), (in_filter (λ (p : Value × Value). is_among (elements s) p.0) (couples r) (h.0, y)).1 ((related r h.0 y).1 h.2, (is_among_finds (elements s) h.0).1 h.1), refl),
 )
 
 -- the couples that pass a test
@@ -72,7 +74,7 @@ in_chosen r p x y = (
 pub in_dom_restrict : (s r x y : Value) → In (Pair x y) (dom_restrict_members s r) ↔ (In x (elements s) × Relates r x y)
 in_dom_restrict s r x y =
     let k = in_chosen r (λ p. is_among (elements s) p.0) x y in
-    let t = among (elements s) x in
+    let t = is_among_finds (elements s) x in
     (λ h. let f = k.0 h in (t.0 f.1, f.0), λ h. k.1 (h.1, t.1 h.0))
 
 pub in_dom_subtract : (s r x y : Value) → In (Pair x y) (dom_subtract_members s r) ↔ ((¬ In x (elements s)) × Relates r x y)
@@ -84,7 +86,7 @@ in_dom_subtract s r x y =
 pub in_ran_restrict : (r s x y : Value) → In (Pair x y) (ran_restrict_members r s) ↔ (Relates r x y × In y (elements s))
 in_ran_restrict r s x y =
     let k = in_chosen r (λ p. is_among (elements s) p.1) x y in
-    let t = among (elements s) y in
+    let t = is_among_finds (elements s) y in
     (λ h. let f = k.0 h in (f.0, t.0 f.1), λ h. k.1 (h.0, t.1 h.1))
 
 pub in_ran_subtract : (r s x y : Value) → In (Pair x y) (ran_subtract_members r s) ↔ (Relates r x y × (¬ In y (elements s)))
@@ -135,4 +137,90 @@ in_compose r s x z =
     (
       λ h. let k = all.0 (whole.0 h) in (k.0, (related r x k.0).0 k.1, (related s k.0 z).0 k.2),
       λ h. whole.1 (all.1 (h.0, (related r x h.0).1 h.1, (related s h.0 z).1 h.2)),
+    )
+
+-- ---- couples joined, as values
+
+-- what is made of each couple of the first and each couple of the second that goes with it
+abbrev pub joined : (Value × Value → Value × Value → Bool) → (Value × Value → Value × Value → Value) → List (Value × Value) → List (Value × Value) → List Value
+joined meets make ps qs = flat_map (λ p. map (make p) (filter (meets p) qs)) ps
+
+pub in_joined : (meets : Value × Value → Value × Value → Bool) (make : Value × Value → Value × Value → Value) (ps qs : List (Value × Value)) (z : Value)
+    → In z (joined meets make ps qs) ↔ ((p : Value × Value) × (q : Value × Value) × In p ps × In q qs × (meets p q ≡ true) × (z ≡ make p q))
+in_joined meets make ps qs z = (
+  λ h. let k = (in_flat_map (λ p. map (make p) (filter (meets p) qs)) ps z).0 h in
+      let m = (in_map (make k.0) (filter (meets k.0) qs) z).0 k.2 in
+      let f = (in_filter (meets k.0) qs m.0).0 m.1 in
+      (k.0, m.0, k.1, f.0, f.1, m.2),
+  λ h. (in_flat_map (λ p. map (make p) (filter (meets p) qs)) ps z).1
+      (h.0, h.2, (in_map (make h.0) (filter (meets h.0) qs) z).1 (h.1, (in_filter (meets h.0) qs h.1).1 (h.3, h.4), h.5)),
+)
+
+pub in_direct : (r s x y z : Value) → In (Pair x (Pair y z)) (direct_members r s) ↔ (Relates r x y × Relates s x z)
+in_direct r s x y z =
+    let all = in_joined (λ p q. same_value q.0 p.0) (λ p q. Pair p.0 (Pair p.1 q.1)) (couples r) (couples s) (Pair x (Pair y z)) in
+    (
+      λ h. let k = all.0 h in
+          let e : x ≡ k.0.0 = firsts x (Pair y z) k.0.0 (Pair k.0.1 k.1.1) k.5 in
+          let inner : Pair y z ≡ Pair k.0.1 k.1.1 = seconds x (Pair y z) k.0.0 (Pair k.0.1 k.1.1) k.5 in
+          let f : y ≡ k.0.1 = firsts y z k.0.1 k.1.1 inner in
+          let g : z ≡ k.1.1 = seconds y z k.0.1 k.1.1 inner in
+          let same : k.1.0 ≡ k.0.0 = (value_decides k.1.0 k.0.0).0 k.4 in
+          (subst (λ w. Relates r w y) (sym e) (subst (λ w. Relates r k.0.0 w) (sym f) ((related r k.0.0 k.0.1).0 k.2)),
+          subst (λ w. Relates s w z) (same ∙ sym e) (subst (λ w. Relates s k.1.0 w) (sym g) ((related s k.1.0 k.1.1).0 k.3))),
+      λ h. all.1 ((x, y), (x, z), (related r x y).1 h.0, (related s x z).1 h.1, (value_decides x x).1 refl, refl),
+    )
+
+-- every couple of the second goes with one of the first
+all_pass : (qs : List (Value × Value)) → filter (λ q. true) qs ≡ qs
+all_pass [] = refl
+all_pass (q ∷ qs) = ap (λ more. q ∷ more) (all_pass qs)
+
+pub all_joined : (make : Value × Value → Value × Value → Value) (ps qs : List (Value × Value)) → joined (λ p q. true) make ps qs ≡ flat_map (λ p. map (make p) qs) ps
+all_joined make [] qs = refl
+all_joined make (p ∷ ps) qs = rw (all_pass qs) (ap (λ more. map (make p) qs ++ more) (all_joined make ps qs))
+
+pub in_parallel : (r s x y z w : Value) → In (Pair (Pair x y) (Pair z w)) (parallel_members r s) ↔ (Relates r x z × Relates s y w)
+in_parallel r s x y z w =
+    let v = Pair (Pair x y) (Pair z w) in
+    let make : Value × Value → Value × Value → Value = λ p q. Pair (Pair p.0 q.0) (Pair p.1 q.1) in
+    let all = subst (λ l. In v l ↔ ((p : Value × Value) × (q : Value × Value) × In p (couples r) × In q (couples s) × (true ≡ true) × (v ≡ make p q)))
+        (all_joined make (couples r) (couples s)) (in_joined (λ p q. true) make (couples r) (couples s) v) in
+    (
+      λ h. let k = all.0 h in
+          let left = firsts (Pair x y) (Pair z w) (Pair k.0.0 k.1.0) (Pair k.0.1 k.1.1) k.5 in
+          let right = seconds (Pair x y) (Pair z w) (Pair k.0.0 k.1.0) (Pair k.0.1 k.1.1) k.5 in
+          (subst (λ u. Relates r u z) (sym (firsts x y k.0.0 k.1.0 left)) (subst (λ u. Relates r k.0.0 u) (sym (firsts z w k.0.1 k.1.1 right)) ((related r k.0.0 k.0.1).0 k.2)),
+          subst (λ u. Relates s u w) (sym (seconds x y k.0.0 k.1.0 left)) (subst (λ u. Relates s k.1.0 u) (sym (seconds z w k.0.1 k.1.1 right)) ((related s k.1.0 k.1.1).0 k.3))),
+      λ h. all.1 ((x, z), (y, w), (related r x z).1 h.0, (related s y w).1 h.1, refl, refl),
+    )
+
+-- ---- projections
+
+in_products : (make : Value → Value → Value) (xs ys : List Value) (z : Value) → In z (flat_map (λ x. map (make x) ys) xs) ↔ ((x : Value) × (y : Value) × In x xs × In y ys × (z ≡ make x y))
+in_products make xs ys z = (
+  λ h. let k = (in_flat_map (λ x. map (make x) ys) xs z).0 h in let m = (in_map (make k.0) ys z).0 k.2 in (k.0, m.0, k.1, m.1, m.2),
+  λ h. (in_flat_map (λ x. map (make x) ys) xs z).1 (h.0, h.2, (in_map (make h.0) ys z).1 (h.1, h.3, h.4)),
+)
+
+pub in_prj1 : (s t x y z : Value) → In (Pair (Pair x y) z) (prj1_members s t) ↔ (In x (elements s) × In y (elements t) × (z ≡ x))
+in_prj1 s t x y z =
+    let all = in_products (λ a b. Pair (Pair a b) a) (elements s) (elements t) (Pair (Pair x y) z) in
+    (
+      λ h. let k = all.0 h in
+          let left = firsts (Pair x y) z (Pair k.0 k.1) k.0 k.4 in
+          let e = firsts x y k.0 k.1 left in
+          (subst (λ w. In w (elements s)) (sym e) k.2, subst (λ w. In w (elements t)) (sym (seconds x y k.0 k.1 left)) k.3, seconds (Pair x y) z (Pair k.0 k.1) k.0 k.4 ∙ sym e),
+      λ h. all.1 (x, y, h.0, h.1, ap (Pair (Pair x y)) h.2),
+    )
+
+pub in_prj2 : (s t x y z : Value) → In (Pair (Pair x y) z) (prj2_members s t) ↔ (In x (elements s) × In y (elements t) × (z ≡ y))
+in_prj2 s t x y z =
+    let all = in_products (λ a b. Pair (Pair a b) b) (elements s) (elements t) (Pair (Pair x y) z) in
+    (
+      λ h. let k = all.0 h in
+          let left = firsts (Pair x y) z (Pair k.0 k.1) k.1 k.4 in
+          let e = seconds x y k.0 k.1 left in
+          (subst (λ w. In w (elements s)) (sym (firsts x y k.0 k.1 left)) k.2, subst (λ w. In w (elements t)) (sym e) k.3, seconds (Pair x y) z (Pair k.0 k.1) k.1 k.4 ∙ sym e),
+      λ h. all.1 (x, y, h.0, h.1, ap (Pair (Pair x y)) h.2),
     )

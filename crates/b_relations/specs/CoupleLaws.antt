@@ -8,7 +8,9 @@ use Rattle.b_values.specs.declared.values.Value.{Value, out-Value, roll-Value, r
 use Rattle.b_values.specs.declared.values.Value.TheOpen.{Value-F}
 use Rattle.b_values.specs.declared.values.Value.TheVariants.{Pair, outs-Pair, rolls-Pair}
 use Rattle.b_relations.specs.Listed.{in_map, in_filter_map}
-use Rattle.b_relations.specs.Relations.{is_among, parts_of, parts, couple, couples_in}
+use Rattle.set_making.specs.Making.{is_among}
+use Rattle.set_making.specs.MakingLaws.{is_among_finds}
+use Rattle.b_relations.specs.Relations.{parts_of, parts, couple, couples_in}
 
 -- ---- couples
 
@@ -49,22 +51,10 @@ in_couple_map ps p = (
 
 -- ---- tests
 
--- the test answers whether the value is a member
-pub among : (xs : List Value) (x : Value) → (is_among xs x ≡ true) ↔ In x xs
-among [] x = (λ h. absurd (cc), λ h. absurd h)
-among (y ∷ ys) x = go (same_value y x) refl (among ys x)
-  where
-    go : (b : Bool) → same_value y x ≡ b → (is_among ys x ≡ true) ↔ In x ys → ((b || is_among ys x) ≡ true) ↔ In x (y ∷ ys)
-    go true e more = (λ h. inl (sym ((value_decides y x).0 e)), λ h. refl)
-    go false e more = (
-      λ h. inr (more.0 h),
-      λ h. elim h [ inl f ↦ absurd (let g = (value_decides y x).1 (sym f) in cc) | inr m ↦ more.1 m ],
-    )
-
--- and its denial whether it is none
+-- the denial of the test answers whether the value is no member
 pub not_among : (xs : List Value) (x : Value) → (not (is_among xs x) ≡ true) ↔ (In x xs → ⊥)
 not_among xs x = go (is_among xs x) refl
   where
     go : (b : Bool) → is_among xs x ≡ b → (not b ≡ true) ↔ (In x xs → ⊥)
-    go true e = (λ h. absurd (cc), λ h. absurd (h ((among xs x).0 e)))
-    go false e = (λ h m. let f = (among xs x).1 m in cc, λ h. refl)
+    go true e = (λ h. absurd (cc), λ h. absurd (h ((is_among_finds xs x).0 e)))
+    go false e = (λ h m. let f = (is_among_finds xs x).1 m in cc, λ h. refl)

@@ -1,6 +1,6 @@
 -- What the operators on relations and functions give: which members, or the fault.
 use Rattle.std.specs.Prelude.{◌≡◌, ◌⊎◌, ℕ, zero, suc, ◌+◌, Bool, true, not, List, [], ◌∷◌, ◌++◌, map, length, Option, Some, None, Result, Ok, Err, pos, negsuc}
-use Rattle.std.specs.List.{filter, filter_map, flat_map, list_any, range_with_len}
+use Rattle.std.specs.List.{filter, filter_map, flat_map, range_with_len}
 use Rattle.ascending.specs.Ascending.{In}
 use Rattle.b_values.specs.Values.{elements, same_value}
 use Rattle.b_values.specs.declared.values.FaultKind.{FaultKind}
@@ -8,11 +8,7 @@ use Rattle.b_values.specs.declared.values.FaultKind.TheVariants.{IllDefined}
 use Rattle.b_values.specs.declared.values.Value.{Value, out-Value}
 use Rattle.b_values.specs.declared.values.Value.TheOpen.{Value-F}
 use Rattle.b_values.specs.declared.values.Value.TheVariants.{Pair}
-use Rattle.set_making.specs.Making.{set_with}
-
--- whether x is one of these
-abbrev pub is_among : List Value → Value → Bool
-is_among xs x = list_any (λ y. same_value y x) xs
+use Rattle.set_making.specs.Making.{set_with, is_among}
 
 -- ---- relations
 
