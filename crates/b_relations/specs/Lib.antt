@@ -1,3 +1,4 @@
 pub mod Listed
 pub mod Relations
 pub mod CoupleLaws
+pub mod Parts

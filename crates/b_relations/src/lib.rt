@@ -1,2 +1,11 @@
 //! Operators on relations and functions.
 #![tactic(auto)]
+
+mod applying;
+mod restricting;
+mod turning;
+mod walking;
+
+pub use applying::{apply, image};
+pub use restricting::{dom_restrict, dom_subtract, overwrite, ran_restrict, ran_subtract};
+pub use turning::{converse, dom, identity, ran};
