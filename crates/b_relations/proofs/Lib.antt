@@ -1,3 +1,4 @@
 pub mod RowLaws
 pub mod RowValues
 pub mod Searching
+pub mod Results

@@ -1,11 +1,11 @@
-ghost use Rattle.std.specs.Prelude.{◌≡◌, ◌↔◌, map, filter, IfOk};
+ghost use Rattle.std.specs.Prelude.{◌≡◌, ◌↔◌, [], ◌∷◌, map, filter, IfOk};
 ghost use Rattle.std.specs.List.{flat_map};
 ghost use Rattle.ascending.specs.Ascending.{In, IsAscending};
 ghost use Rattle.b_values.specs.Values.{IsKept, elements, value_cmp};
 ghost use Rattle.b_values.specs.declared.values.Value.{Value};
 ghost use Rattle.set_making.specs.Making.{Answers};
 ghost use Rattle.b_relations.specs.Parts.{begins_with};
-ghost use Rattle.b_relations.specs.Relations.{Relates, apply_row, couples_in, image_row};
+ghost use Rattle.b_relations.specs.Relations.{Relates, apply_row, couples_in, image_row, only};
 
 use crate::walking::{Taken, couples_from, take_into};
 use b_values::{FaultKind, Value};
@@ -46,7 +46,17 @@ pub fn apply(_alloc: Global, f: &Value, x: &Value) -> Result<Value, OpFault>
     ensures image { IfOk result (λ v. (y : Value) → Relates f.now x.now y ↔ (y ≡ v)) }
 {
     match couples_from(f.members(), x) {
-        [Value::Pair(_, y)] => y.get().share().map_err(|_| OpFault::Memory),
+        [m] => second_of(m),
+        _ => Err(OpFault::Fault(FaultKind::IllDefined)),
+    }
+}
+
+/// The second part of a couple.
+fn second_of(m: &Value) -> Result<Value, OpFault>
+    ensures { Answers (only (map (λ p. p.1) (couples_in (m.now ∷ [])))) result }
+{
+    match m {
+        Value::Pair(_, y) => y.get().share().map_err(|_| OpFault::Memory),
         _ => Err(OpFault::Fault(FaultKind::IllDefined)),
     }
 }
