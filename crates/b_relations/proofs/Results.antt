@@ -13,7 +13,8 @@ use Rattle.set_making.specs.declared.OpFault.{OpFault}
 use Rattle.set_making.specs.ListMembers.{filter_ascends}
 use Rattle.set_making.specs.Making.{set_with, Answers}
 use Rattle.set_making.specs.MakingLaws.{set_with_members}
-use Rattle.b_relations.specs.Parts.{begins_with, passes}
+use Rattle.b_relations.specs.Parts.{keeps, passes}
+use Rattle.b_relations.specs.declared.walking.Side.{Side}
 use Rattle.b_relations.specs.Relations.{Relates, couple, couples_in}
 use Rattle.b_relations.proofs.Searching.{chosen_parts}
 
@@ -40,3 +41,7 @@ filtered_ascends t xs ys a e = subst (IsAscending value_cmp) (sym e) (filter_asc
 -- a set's list ascends
 pub made_ascends : (xs ys : List Value) → ys ≡ set_of value_cmp xs → IsAscending value_cmp ys
 made_ascends xs ys e = subst (IsAscending value_cmp) (sym e) (set_of_ascends value_cmp value_total value_same xs)
+
+-- what a walk kept, at the operands' members
+pub kept_of : (side : Side) (within : Bool) (r s members set kept : List Value) → members ≡ r → set ≡ s → kept ≡ filter (passes (keeps side set within)) members → kept ≡ filter (passes (keeps side s within)) r
+kept_of side within r s members set kept e f g = g ∙ rw (e, f) refl

@@ -1,7 +1,8 @@
 -- Couples with one first part stand together, and two binary searches find them.
 use Rattle.std.proofs.Common.{◌≡◌, ◌⊎◌, ◌↔◌, ◌<◌, ◌≤◌, ◌+◌, ◌-◌, ℕ, zero, suc, Bool, true, false, not, cond, List, [], ◌∷◌, ◌++◌, map, length, get_or, take, drop, Option, Some, None, arith, refl, sym, ap, ◌∙◌, subst, inl, inr}
 use Rattle.std.specs.List.{filter, filter_map, cons_option}
-use Rattle.std.specs.List.Sorted.{IsPartitionedBy}
+use Rattle.std.specs.List.Sorted.{IsPartitionedBy, IsPartitionPoint}
+use Rattle.std.proofs.lemmas.List.{take_all}
 use Rattle.std.specs.declared.cmp.Ordering.{Ordering}
 use Rattle.std.specs.declared.cmp.Ordering.TheVariants.{Less, Equal, Greater}
 use Rattle.std.specs.Ordering.{is_lt, is_eq, is_gt, ordering_then}
@@ -198,3 +199,22 @@ chosen_step t m (Some p) e xs ps f = go (t p)
 pub chosen_parts : (t : Value × Value → Bool) (xs : List Value) → filter (passes t) xs ≡ map couple (filter t (couples_in xs))
 chosen_parts t [] = refl
 chosen_parts t (m ∷ xs) = chosen_step t m (parts m) refl (filter (passes t) xs) (couples_in xs) (chosen_parts t xs)
+
+-- the slice from a place to the end
+rest_whole : (xs : List Value) (low : ℕ) → take (length xs - low) (drop low xs) ≡ drop low xs
+rest_whole xs low = take_all (length xs - low) (drop low xs) (omega (arith, drop_length xs low))
+
+pub rest_ascends : (xs : List Value) (low : ℕ) → IsAscending value_cmp xs → IsAscending value_cmp (take (length xs - low) (drop low xs))
+rest_ascends xs low a = subst (IsAscending value_cmp) (sym (rest_whole xs low)) (ascending_drop low xs a)
+
+-- the same of two partition points, the second in the rest from the first
+pub couples_found : (x : Value) (xs : List Value) (low count : ℕ) → low ≤ length xs
+    → IsPartitionPoint (λ m. is_before x m ≡ true) (λ m. is_before x m ≡ false) xs low
+    → IsPartitionPoint (λ m. not_after x m ≡ true) (λ m. not_after x m ≡ false) (take (length xs - low) (drop low xs)) count
+    → take count (take (length xs - low) (drop low xs)) ≡ filter (begins_with x) xs
+couples_found x xs low count within first second =
+    let e = rest_whole xs low in
+    let rest : IsPartitionPoint (λ m. not_after x m ≡ true) (λ m. not_after x m ≡ false) (drop low xs) count =
+        subst (λ l. IsPartitionPoint (λ m. not_after x m ≡ true) (λ m. not_after x m ≡ false) l count) e second in
+    ap (take count) e
+    ∙ couples_between x xs low count within (λ k d l. first.0 k d (omega arith) l) (λ k d l m. first.1 k d l m) (λ k d l. rest.0 k d (omega arith) l) (λ k d l m. rest.1 k d l m)

@@ -2,3 +2,4 @@ pub mod Listed
 pub mod Relations
 pub mod CoupleLaws
 pub mod Parts
+pub mod Joining

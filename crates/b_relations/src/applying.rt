@@ -45,9 +45,11 @@ pub fn apply(_alloc: Global, f: &Value, x: &Value) -> Result<Value, OpFault>
     ensures kept { IfOk result (λ v. IsKept v) }
     ensures image { IfOk result (λ v. (y : Value) → Relates f.now x.now y ↔ (y ≡ v)) }
 {
-    match couples_from(f.members(), x) {
-        [m] => second_of(m),
-        _ => Err(OpFault::Fault(FaultKind::IllDefined)),
+    let images = couples_from(f.members(), x);
+    if images.len() == 1 {
+        second_of(&images[0])
+    } else {
+        Err(OpFault::Fault(FaultKind::IllDefined))
     }
 }
 
