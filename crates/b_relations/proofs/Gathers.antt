@@ -21,8 +21,8 @@ front_in xs ys z h = (in_append z xs ys).1 (inl h)
 -- ---- one call
 
 pub adds_one : (old new : List Value) (v : Value) (r : Result (Unit {0}) OpFault) → OnOk r (new ≡ insert value_cmp v old) → IfErr r (λ e. FaultOf (set_with old) e) → Adds old (v ∷ []) r new
-adds_one old new v (Ok done) a b xs e = gathered_more old new xs v e a
-adds_one old new v (Err f) a b xs e = gathered_fault old xs (xs ++ v ∷ []) f e (front_in xs (v ∷ [])) b
+adds_one old new v (Ok done) a b = λ xs e. gathered_more old new xs v e a
+adds_one old new v (Err f) a b = λ xs e. gathered_fault old xs (xs ++ v ∷ []) f e (front_in xs (v ∷ [])) b
 
 pub adds_none : (old : List Value) → Adds old [] (Ok tt) old
 adds_none old xs e = e ∙ ap (set_of value_cmp) (sym (append-nil xs))

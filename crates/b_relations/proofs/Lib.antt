@@ -6,3 +6,8 @@ pub mod Steps
 pub mod ImageLaws
 pub mod Overwriting
 pub mod Gathers
+pub mod Paths
+pub mod JoinLaws
+pub mod Reaching
+pub mod ClosureLaws
+pub mod IterateLaws

@@ -15,15 +15,11 @@ use Rattle.b_relations.specs.Parts.{keeps, passes}
 use Rattle.b_relations.specs.Relations.{couple, couples, couples_in, dom_members, overwrite_members}
 use Rattle.b_relations.specs.declared.walking.Side.TheVariants.{Left}
 use Rattle.b_relations.proofs.Searching.{chosen_parts}
-use Rattle.b_relations.proofs.Steps.{map_append, filter_same}
+use Rattle.b_relations.proofs.Steps.{map_append, filter_same, all_pass}
 
 -- the test of membership asks for the members alone
 pub among_same : (xs ys : List Value) → SameMembers xs ys → (x : Value) → is_among xs x ≡ is_among ys x
 among_same xs ys f x = is_among_is ys x (is_among xs x) (λ h. (f x).0 ((is_among_finds xs x).0 h), λ h. (is_among_finds xs x).1 ((f x).1 h))
-
-all_pass : (qs : List (Value × Value)) → filter (λ q. true) qs ≡ qs
-all_pass [] = refl
-all_pass (q ∷ qs) = ap (λ more. q ∷ more) (all_pass qs)
 
 -- where nothing is asked, all couples are kept
 pub all_couples : (xs : List Value) → filter (passes (keeps Left [] false)) xs ≡ map couple (couples_in xs)

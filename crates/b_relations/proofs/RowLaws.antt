@@ -8,6 +8,7 @@ use Rattle.b_values.specs.Values.{elements, same_value}
 use Rattle.b_values.specs.declared.values.Value.{Value}
 use Rattle.b_values.specs.declared.values.Value.TheVariants.{Pair}
 use Rattle.b_relations.specs.Listed.{in_map, in_filter, in_flat_map}
+use Rattle.b_relations.proofs.Steps.{all_pass}
 use Rattle.b_relations.specs.CoupleLaws.{same_parts, in_couples, in_couple_map, not_among}
 use Rattle.set_making.specs.Making.{is_among}
 use Rattle.set_making.specs.MakingLaws.{is_among_finds}
@@ -170,11 +171,6 @@ in_direct r s x y z =
           subst (λ w. Relates s w z) (same ∙ sym e) (subst (λ w. Relates s k.1.0 w) (sym g) ((related s k.1.0 k.1.1).0 k.3))),
       λ h. all.1 ((x, y), (x, z), (related r x y).1 h.0, (related s x z).1 h.1, (value_decides x x).1 refl, refl),
     )
-
--- every couple of the second goes with one of the first
-all_pass : (qs : List (Value × Value)) → filter (λ q. true) qs ≡ qs
-all_pass [] = refl
-all_pass (q ∷ qs) = ap (λ more. q ∷ more) (all_pass qs)
 
 pub all_joined : (make : Value × Value → Value × Value → Value) (ps qs : List (Value × Value)) → joined (λ p q. true) make ps qs ≡ flat_map (λ p. map (make p) qs) ps
 all_joined make [] qs = refl

@@ -26,3 +26,8 @@ pub one_item : {X : Type 0} (xs : List X) (x : X) → 1 ≤ length xs → length
 one_item [] x h l e = absurd (omega arith)
 one_item (y ∷ []) x h l e = ap (λ z. z ∷ []) (sym e)
 one_item (y ∷ z ∷ ys) x h l e = absurd (omega arith)
+
+-- what passes a test that all pass
+pub all_pass : {X : Type 0} (xs : List X) → filter (λ x. true) xs ≡ xs
+all_pass [] = refl
+all_pass (x ∷ xs) = ap (λ more. x ∷ more) (all_pass xs)

@@ -3,3 +3,4 @@ pub mod Relations
 pub mod CoupleLaws
 pub mod Parts
 pub mod Joining
+pub mod Closing

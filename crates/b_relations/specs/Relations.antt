@@ -177,6 +177,7 @@ abbrev pub iterated : List (Value × Value) → ℕ → List (Value × Value)
 iterated ps zero = map (λ x. (x, x)) (field ps)
 iterated ps (suc n) = composed (iterated ps n) ps
 
+-- the iterate for a number of steps, which is no less than 0
 abbrev pub iterate_layer : List (Value × Value) → Value-F Value → Result Value FaultKind
 iterate_layer ps (Value-F.Int (pos n)) = set_with (map couple (iterated ps n))
 iterate_layer ps x = Err IllDefined
@@ -186,9 +187,47 @@ abbrev pub iterate_row : Value → Value → Result Value FaultKind
 iterate_row r n = iterate_layer (couples r) (out-Value n)
 
 -- closure1(r): the iterates from 1 to the number of couples
+abbrev pub closure1_members : Value → List Value
+closure1_members r = map couple (flat_map (iterated (couples r)) (range_with_len 1 (length (couples r))))
+
 abbrev pub closure1_row : Value → Result Value FaultKind
-closure1_row r = set_with (map couple (flat_map (iterated (couples r)) (range_with_len 1 (length (couples r)))))
+closure1_row r = set_with (closure1_members r)
 
 -- closure(r): the iterates from 0 to the number of couples
+abbrev pub closure_members : Value → List Value
+closure_members r = map couple (flat_map (iterated (couples r)) (range_with_len 0 (length (couples r) + 1)))
+
 abbrev pub closure_row : Value → Result Value FaultKind
-closure_row r = set_with (map couple (flat_map (iterated (couples r)) (range_with_len 0 (length (couples r) + 1))))
+closure_row r = set_with (closure_members r)
+
+-- ---- what iterates and closures are
+
+-- n couples lead from x to z, each beginning where the one before ends; none, from what stands in a couple to itself
+abbrev pub Leads : Value → ℕ → Value → Value → Type 0
+Leads r zero x z = (x ≡ z) × (InDomain r x ⊎ InRange r x)
+Leads r (suc n) x z = (y : Value) × Leads r n x y × Relates r y z
+
+-- t relates all that r relates
+abbrev pub Includes : Value → Value → Type 0
+Includes t r = (x y : Value) → Relates r x y → Relates t x y
+
+-- what is related by way of a third is related
+abbrev pub IsTransitive : Value → Type 0
+IsTransitive t = (x y z : Value) → Relates t x y → Relates t y z → Relates t x z
+
+-- v is the least transitive relation that includes r
+pub record IsTransitiveClosure (r v : Value) : Type 0 where
+  pub contains : Includes v r
+  pub transitive : IsTransitive v
+  pub least : (t : Value) → Includes t r → IsTransitive t → Includes t v
+
+-- each value that stands in a couple of r is related to itself
+abbrev pub IsReflexiveOn : Value → Value → Type 0
+IsReflexiveOn r t = (x : Value) → InDomain r x ⊎ InRange r x → Relates t x x
+
+-- v is the least such transitive relation that includes r
+pub record IsReflexiveClosure (r v : Value) : Type 0 where
+  pub contains : Includes v r
+  pub reflexive : IsReflexiveOn r v
+  pub transitive : IsTransitive v
+  pub least : (t : Value) → Includes t r → IsReflexiveOn r t → IsTransitive t → Includes t v

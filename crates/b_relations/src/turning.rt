@@ -66,7 +66,7 @@ fn taken_of_all(alloc: Global, r: &Value, what: Taken) -> Result<Value, OpFault>
 }
 
 /// Each value coupled with itself.
-fn twins(alloc: Global, values: &[Value]) -> Result<Vec<Value>, AllocError>
+pub fn twins(alloc: Global, values: &[Value]) -> Result<Vec<Value>, AllocError>
     ensures { IfOk result (λ v. v.items ≡ map (λ x. Pair x x) values.now) }
 {
     let mut found = Vec::new(alloc);
