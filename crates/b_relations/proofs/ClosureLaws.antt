@@ -24,7 +24,7 @@ use Rattle.set_making.specs.Sums.{length_below_sum}
 use Rattle.b_relations.specs.Closing.{IsRelation}
 use Rattle.b_relations.specs.CoupleLaws.{in_couples, in_couple_map}
 use Rattle.b_relations.specs.Listed.{SameMembers, in_map}
-use Rattle.b_relations.specs.Relations.{Relates, InDomain, InRange, Includes, IsTransitive, IsReflexiveOn, IsTransitiveClosure, IsReflexiveClosure, couple, couples, couples_in, composed, compose_members, iterated, closure1_members, closure1_row, closure_members, closure_row}
+use Rattle.b_relations.specs.Relations.{Relates, InDomain, InRange, Includes, IsTransitive, IsReflexiveOn, IsTransitiveClosure, IsReflexiveClosure, couple, couples, couples_in, composed, compose_members, compose_row, field, iterated, closure1_members, closure1_row, closure_members, closure_row}
 use Rattle.b_relations.proofs.Paths.{Reaches, iterated_none, no_longer}
 use Rattle.b_relations.proofs.Reaching.{Parts, Within, from_one, from_none, in_from_one, in_from_none, in_closure1, in_closure, reaches_first, reaches_on, reaches_least, square_reaches, closed_reaches, same_reaches, stands}
 use Rattle.b_relations.proofs.Results.{answers_fact}
@@ -233,19 +233,17 @@ alone_within r z h = let k = (in_map couple (couples r) z).0 h in
 
 -- ---- the laws
 
-iterated_values : (ps : Parts) → PartsAreValues ps → (n : ℕ) → PartsAreValues (iterated ps n)
-iterated_values ps h zero p m =
-    let k = (in_map (λ (w : Value). (w, w)) _ p).0 m in
-    go p k.0 k.2 (field_values k.0 k.1)
-  where
-    go : (p : Value × Value) (w : Value) → p ≡ (w, w) → IsValue w → IsValue p.0 × IsValue p.1
-    go p w e v = (subst IsValue (sym (ap (λ q. q.0) e)) v, subst IsValue (sym (ap (λ q. q.1) e)) v)
+field_values : (ps : Parts) → PartsAreValues ps → (w : Value) → In w (field ps) → IsValue w
+field_values ps h w m = elim ((in_append w (map (λ (q : Value × Value). q.0) ps) (map (λ (q : Value × Value). q.1) ps)).0 m) [
+  | inl f ↦ (let k = (in_map (λ (q : Value × Value). q.0) ps w).0 f in subst IsValue (sym k.2) (h k.0 k.1).0)
+  | inr f ↦ (let k = (in_map (λ (q : Value × Value). q.1) ps w).0 f in subst IsValue (sym k.2) (h k.0 k.1).1)
+]
 
-    field_values : (w : Value) → In w (map (λ (q : Value × Value). q.0) ps ++ map (λ (q : Value × Value). q.1) ps) → IsValue w
-    field_values w m = elim ((in_append w (map (λ (q : Value × Value). q.0) ps) (map (λ (q : Value × Value). q.1) ps)).0 m) [
-      | inl f ↦ (let k = (in_map (λ (q : Value × Value). q.0) ps w).0 f in subst IsValue (sym k.2) (h k.0 k.1).0)
-      | inr f ↦ (let k = (in_map (λ (q : Value × Value). q.1) ps w).0 f in subst IsValue (sym k.2) (h k.0 k.1).1)
-    ]
+twin_values : (p : Value × Value) (w : Value) → p ≡ (w, w) → IsValue w → IsValue p.0 × IsValue p.1
+twin_values p w e v = (subst IsValue (sym (ap (λ q. q.0) e)) v, subst IsValue (sym (ap (λ q. q.1) e)) v)
+
+iterated_values : (ps : Parts) → PartsAreValues ps → (n : ℕ) → PartsAreValues (iterated ps n)
+iterated_values ps h zero = λ p m. let k = (in_map (λ (w : Value). (w, w)) (field ps) p).0 m in twin_values p k.0 k.2 (field_values ps h k.0 k.1)
 iterated_values ps h (suc n) = composed_values (iterated ps n) ps (iterated_values ps h n) h
 
 pub iterated_are_values : (r : Value) → IsValue r → (n : ℕ) → AllByRecursion IsValue (map couple (iterated (couples r) n))
@@ -314,3 +312,21 @@ with_standing_members r ways e z =
 pub closure1_within : (r z : Value) → In z (closure1_members r) → In z (closure_members r)
 closure1_within r z h = let f = (in_map couple (from_one (couples r)) z).0 h in
     (in_map couple (from_none (couples r)) z).1 (f.0, (in_from_none (couples r) f.0.0 f.0.1).1 (inr ((in_from_one (couples r) f.0.0 f.0.1).0 f.1)), f.2)
+
+-- the relation and its square, united
+pub doubled_is : (s square : Value) (xs ys : List Value) (r : Result Value OpFault) → compose_row s s ≡ Ok square → xs ≡ elements s → ys ≡ elements square → Answers (set_with (xs ++ ys)) r → Answers (set_with (elements s ++ compose_members s s)) r
+doubled_is s square xs ys r e f g a = answers_same (xs ++ ys) (elements s ++ compose_members s s) r (λ z.
+    let left = in_append z xs ys in
+    let right = in_append z (elements s) (compose_members s s) in
+    let m = set_with_members (compose_members s s) square e z in
+    (
+      λ h. right.1 (elim (left.0 h) [ inl k ↦ inl (subst (In z) f k) | inr k ↦ inr (m.0 (subst (In z) g k)) ]),
+      λ h. left.1 (elim (right.0 h) [ inl k ↦ inl (subst (In z) (sym f) k) | inr k ↦ inr (subst (In z) (sym g) (m.1 k)) ]),
+    )) a
+
+-- the ways and what stands, united
+pub standing_is : (r ways : Value) (xs ys items relation : List Value) (result : Result Value OpFault) → relation ≡ elements r → items ≡ set_of value_cmp (map couple (iterated (couples_in relation) 0)) → xs ≡ elements ways → ys ≡ items
+    → Answers (set_with (xs ++ ys)) result → Answers (set_with (elements ways ++ set_of value_cmp (map couple (iterated (couples r) 0)))) result
+standing_is r ways xs ys items relation result e f g h a =
+    let rest : ys ≡ set_of value_cmp (map couple (iterated (couples r) 0)) = h ∙ f ∙ ap (λ l. set_of value_cmp (map couple (iterated (couples_in l) 0))) e in
+    subst (λ l. Answers (set_with l) result) (ap (λ l. l ++ ys) g ∙ ap (λ l. elements ways ++ l) rest) a

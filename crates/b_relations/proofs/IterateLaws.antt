@@ -2,6 +2,7 @@
 use Rattle.std.proofs.Common.{◌≡◌, ◌⊎◌, ◌↔◌, ◌+◌, ◌*◌, ◌/◌, ◌%◌, ◌<◌, ◌≤◌, ℕ, ℤ, pos, negsuc, zero, suc, List, [], ◌∷◌, ◌++◌, map, length, get_or, take, Result, Ok, Err, Option, Some, None, arith, append-nil, refl, sym, ap, ◌∙◌, subst, inl, inr}
 use Rattle.std.specs.Prelude.{IfOk}
 use Rattle.std.specs.List.{flat_map, filter, cons_option}
+use Rattle.std.specs.declared.alloc.AllocError.{AllocError}
 use Rattle.std.proofs.lemmas.List.{take_all}
 use Rattle.ascending.specs.Ascending.{In, set_of}
 use Rattle.ascending.specs.Members.{in_append}
@@ -160,3 +161,28 @@ iterate_leads r n k result e a = answers_relation (Leads r k) (map couple (itera
     let whole = in_couple_map (iterated (couples r) k) (x, z) in
     let l = leads r k x z in
     (λ h. l.0 (whole.0 h), λ h. whole.1 (l.1 h))) (subst (λ row. Answers row result) (iterate_at r n k e) a)
+
+-- the iterate of a relation's members
+pub at_relation : (r : Value) (k : ℕ) (relation items : List Value) → relation ≡ elements r → items ≡ set_of value_cmp (map couple (iterated (couples_in relation) k)) → items ≡ set_of value_cmp (map couple (iterated (couples r) k))
+at_relation r k relation items e f = f ∙ ap (λ l. set_of value_cmp (map couple (iterated (couples_in l) k))) e
+
+if_ok : {T E : Type 0} (P Q : T → Type 0) → ((v : T) → P v → Q v) → (r : Result T E) → IfOk r P → IfOk r Q
+if_ok P Q f (Ok v) h = f v h
+if_ok P Q f (Err e) h = tt
+
+-- the last step of an even number of times
+pub even_steps : (ps : Parts) (n : ℕ) (half xs ys items : List Value) → n % 2 ≡ 0 → half ≡ set_of value_cmp (map couple (iterated ps (n / 2))) → xs ≡ half → ys ≡ half
+    → items ≡ set_of value_cmp (map couple (composed (couples_in xs) (couples_in ys))) → items ≡ set_of value_cmp (map couple (iterated ps n))
+even_steps ps n half xs ys items r e f g h =
+    even_times ps n half items r e (h ∙ ap (λ l. set_of value_cmp (map couple (composed (couples_in l) (couples_in ys)))) f ∙ ap (λ l. set_of value_cmp (map couple (composed (couples_in half) (couples_in l)))) g)
+
+-- and of an odd number
+pub odd_steps : (relation : List Value) (n : ℕ) (half xs ys whole zs : List Value) (result : Result (List Value) AllocError) → (n % 2 ≡ 0 → ⊥) → half ≡ set_of value_cmp (map couple (iterated (couples_in relation) (n / 2))) → xs ≡ half → ys ≡ half
+    → whole ≡ set_of value_cmp (map couple (composed (couples_in xs) (couples_in ys))) → zs ≡ whole
+    → IfOk result (λ items. items ≡ set_of value_cmp (map couple (composed (couples_in zs) (couples_in relation)))) → IfOk result (λ items. items ≡ set_of value_cmp (map couple (iterated (couples_in relation) n)))
+odd_steps relation n half xs ys whole zs result r e f g h k =
+    if_ok (λ items. items ≡ set_of value_cmp (map couple (composed (couples_in zs) (couples_in relation)))) (λ items. items ≡ set_of value_cmp (map couple (iterated (couples_in relation) n)))
+    (λ items m. odd_times (couples_in relation) n half whole items r e
+        (h ∙ ap (λ l. set_of value_cmp (map couple (composed (couples_in l) (couples_in ys)))) f ∙ ap (λ l. set_of value_cmp (map couple (composed (couples_in half) (couples_in l)))) g)
+        (m ∙ ap (λ l. set_of value_cmp (map couple (composed (couples_in l) (couples_in relation)))) k))
+    result

@@ -1,10 +1,9 @@
 ghost use Rattle.std.specs.Prelude.{IfOk};
-ghost use Rattle.std.specs.List.{AllByRecursion};
-ghost use Rattle.b_values.specs.Values.{IsKept, IsValue};
+ghost use Rattle.b_values.specs.Values.{IsKept};
 
 use super::*;
 use b_values::{Face, FaultKind, Prefs, Ty, Value, read_value, same_value, write_value};
-use set_making::{OpFault, set_with};
+use set_making::OpFault;
 use sqlite_items::{Boxed, Items};
 use std::alloc::{AllocError, Global};
 use std::process::Abort;
@@ -245,64 +244,70 @@ fn joins(rt: HostRuntime) -> Result<(), Fail> {
     check_two(&rt, alloc, Two::Iterate, &relations, &Ty::Int, ITERATES)
 }
 
-/// The set of the integers from 1 to a number.
-fn numbers_to(alloc: Global, last: u32) -> Result<Value, OpFault>
-    ensures { IfOk result (λ v. IsKept v) }
-{
-    match listed_to(alloc, last) {
-        Ok(numbers) => set_with(alloc, numbers),
-        Err(_) => Err(OpFault::Memory),
-    }
-}
-
-fn listed_to(alloc: Global, last: u32) -> Result<Vec<Value>, AllocError>
-    ensures { IfOk result (λ numbers. AllByRecursion IsValue numbers.items) }
-{
-    let mut numbers = Vec::new(alloc);
-    for n in 0..last {
-        numbers.push(Value::Int(i128::from(n) + 1))?;
-    }
-    Ok(numbers)
-}
-
-/// What tells an answer that is refused.
-fn refused(answer: Result<Value, OpFault>) -> bool {
-    matches!(answer, Err(OpFault::Fault(FaultKind::TooLarge)))
-}
-
-/// Each number from 1 to the last, related to 0.
-fn to_none(alloc: Global, last: u32) -> Result<Value, Fail>
+/// The numbers from 0, so many.
+fn numbers(alloc: Global, count: u32) -> Result<Value, Fail>
     ensures { IfOk result (λ v. IsKept v) }
 {
     let face = empty_face(alloc)?;
-    let none = read_value(alloc, &face, &set_type(alloc, Ty::Int)?, b"{0}")?;
-    let numbers = numbers_to(alloc, last)?;
-    let first = converse(alloc, &prj1(alloc, &numbers, &none)?)?;
-    Ok(compose(alloc, &first, &prj2(alloc, &numbers, &none)?)?)
+    let mut text = String::from_str(alloc, "{0")?;
+    for n in 1..count {
+        text.push_str(format!(in alloc; ",{n}")?.as_str())?;
+    }
+    text.push_str("}")?;
+    Ok(read_value(alloc, &face, &set_type(alloc, Ty::Int)?, text.as_bytes())?)
+}
+
+/// Each of the numbers, related to 0.
+fn to_none(alloc: Global, count: u32) -> Result<Value, Fail>
+    ensures { IfOk result (λ v. IsKept v) }
+{
+    let none = numbers(alloc, 1)?;
+    let all = numbers(alloc, count)?;
+    let first = converse(alloc, &prj1(alloc, &all, &none)?)?;
+    Ok(compose(alloc, &first, &prj2(alloc, &all, &none)?)?)
+}
+
+/// What tells an answer that is refused.
+fn is_refused(answer: Result<Value, OpFault>) -> bool {
+    matches!(answer, Err(OpFault::Fault(FaultKind::TooLarge)))
 }
 
 /// A million nodes are the limit, whatever is joined on the way.
 #[test]
-fn refuses_what_is_too_large(rt: HostRuntime) -> Result<(), Fail> {
+fn refuses_joins_that_are_too_large(rt: HostRuntime) -> Result<(), Fail> {
     let alloc = rt.alloc();
-    let face = empty_face(alloc)?;
-    let many = numbers_to(alloc, 100_000)?;
-    assert!(rt; refused(prj1(alloc, &many, &many)));
-    assert!(rt; refused(prj2(alloc, &many, &many)));
-    assert!(rt; refused(identity(alloc, &numbers_to(alloc, 400_000)?)));
+    let thousand = numbers(alloc, 1_000)?;
+    assert!(rt; is_refused(prj1(alloc, &thousand, &thousand)));
+    assert!(rt; is_refused(prj2(alloc, &thousand, &thousand)));
     let there = to_none(alloc, 1_000)?;
     let back = converse(alloc, &there)?;
-    assert!(rt; refused(compose(alloc, &there, &back)));
-    assert!(rt; refused(direct(alloc, &back, &back)));
-    assert!(rt; refused(parallel(alloc, &there, &there)));
-    let both = overwrite(alloc, &there, &back)?;
-    assert!(rt; refused(closure1(alloc, &both)));
-    assert!(rt; refused(closure(alloc, &both)));
+    assert!(rt; is_refused(compose(alloc, &there, &back)));
+    assert!(rt; is_refused(direct(alloc, &back, &back)));
+    assert!(rt; is_refused(parallel(alloc, &there, &there)));
+    Ok(())
+}
+
+#[test]
+fn refuses_closures_that_are_too_large(rt: HostRuntime) -> Result<(), Fail> {
+    let alloc = rt.alloc();
+    let face = empty_face(alloc)?;
+    let there = to_none(alloc, 1_000)?;
+    let both = overwrite(alloc, &there, &converse(alloc, &there)?)?;
+    assert!(rt; is_refused(closure1(alloc, &both)));
+    assert!(rt; is_refused(closure(alloc, &both)));
     let two = read_value(alloc, &face, &Ty::Int, b"2")?;
-    assert!(rt; refused(iterate(alloc, &both, &two)));
-    let wide = to_none(alloc, 190_000)?;
-    let other = converse(alloc, &wide)?;
-    assert!(rt; refused(overwrite(alloc, &wide, &other)));
+    assert!(rt; is_refused(iterate(alloc, &both, &two)));
+    Ok(())
+}
+
+#[test]
+fn refuses_what_else_is_too_large(rt: HostRuntime) -> Result<(), Fail> {
+    let alloc = rt.alloc();
+    let thousand = numbers(alloc, 1_000)?;
+    let wide = prj1(alloc, &numbers(alloc, 120)?, &thousand)?;
+    assert!(rt; is_refused(overwrite(alloc, &wide, &converse(alloc, &wide)?)));
+    let wider = prj1(alloc, &numbers(alloc, 199)?, &thousand)?;
+    assert!(rt; is_refused(identity(alloc, &dom(alloc, &wider)?)));
     Ok(())
 }
 
