@@ -42,17 +42,17 @@ in_difference s t a e z = (
 pub difference_of_union : (s t u v a b : Value) → union_row t u ≡ Ok v → difference_row s t ≡ Ok a → difference_row s u ≡ Ok b → difference_row s v ≡ intersect_row a b
 difference_of_union s t u v a b e f g = set_with_same _ _ (λ z. (
   λ h.
-    let p = (in_filter (λ x. not (is_among (elements v) x)) z (elements s)).0 h in
-    let out = (not_among (elements v) z).0 p.1 in
-    let no_t : In z (elements t) → ⊥ = λ m. out ((set_with_members _ v e z).1 ((in_append z (elements t) (elements u)).1 (inl m))) in
-    let no_u : In z (elements u) → ⊥ = λ m. out ((set_with_members _ v e z).1 ((in_append z (elements t) (elements u)).1 (inr m))) in
-    (in_filter (λ x. is_among (elements b) x) z (elements a)).1 ((in_difference s t a f z).1 (p.0, no_t), (is_among_finds (elements b) z).1 ((in_difference s u b g z).1 (p.0, no_u))),
+      let p = (in_filter (λ x. not (is_among (elements v) x)) z (elements s)).0 h in
+      let out = (not_among (elements v) z).0 p.1 in
+      let no_t : In z (elements t) → ⊥ = λ m. out ((set_with_members _ v e z).1 ((in_append z (elements t) (elements u)).1 (inl m))) in
+      let no_u : In z (elements u) → ⊥ = λ m. out ((set_with_members _ v e z).1 ((in_append z (elements t) (elements u)).1 (inr m))) in
+      (in_filter (λ x. is_among (elements b) x) z (elements a)).1 ((in_difference s t a f z).1 (p.0, no_t), (is_among_finds (elements b) z).1 ((in_difference s u b g z).1 (p.0, no_u))),
   λ h.
-    let p = (in_filter (λ x. is_among (elements b) x) z (elements a)).0 h in
-    let in_a = (in_difference s t a f z).0 p.0 in
-    let in_b = (in_difference s u b g z).0 ((is_among_finds (elements b) z).0 p.1) in
-    let no_v : In z (elements v) → ⊥ = λ m. elim ((in_append z (elements t) (elements u)).0 ((set_with_members _ v e z).0 m)) [ inl k ↦ in_a.1 k | inr k ↦ in_b.1 k ] in
-    (in_filter (λ x. not (is_among (elements v) x)) z (elements s)).1 (in_a.0, (not_among (elements v) z).1 no_v),
+      let p = (in_filter (λ x. is_among (elements b) x) z (elements a)).0 h in
+      let in_a = (in_difference s t a f z).0 p.0 in
+      let in_b = (in_difference s u b g z).0 ((is_among_finds (elements b) z).0 p.1) in
+      let no_v : In z (elements v) → ⊥ = λ m. elim ((in_append z (elements t) (elements u)).0 ((set_with_members _ v e z).0 m)) [ inl k ↦ in_a.1 k | inr k ↦ in_b.1 k ] in
+      (in_filter (λ x. not (is_among (elements v) x)) z (elements s)).1 (in_a.0, (not_among (elements v) z).1 no_v),
 ))
 
 -- ---- relations
@@ -61,16 +61,16 @@ difference_of_union s t u v a b e f g = set_with_same _ _ (λ z. (
 pub domain_of_converse : (r c : Value) → converse_row r ≡ Ok c → dom_row c ≡ ran_row r
 domain_of_converse r c e = set_with_same (dom_members c) (ran_members r) (λ z. (
   λ h.
-    let p = (in_map (λ (q : Value × Value). q.0) z (couples c)).0 h in
-    let m = (set_with_members (converse_members r) c e (couple p.0)).0 ((in_couples (elements c) p.0).0 p.1) in
-    let q = (in_map (λ (w : Value × Value). Pair w.1 w.0) (couple p.0) (couples r)).0 m in
-    let same = same_parts p.0 (q.0.1, q.0.0) q.2 in
-    (in_map (λ (w : Value × Value). w.1) z (couples r)).1 (q.0, q.1, p.2 ∙ ap (λ (w : Value × Value). w.0) same),
+      let p = (in_map (λ (q : Value × Value). q.0) z (couples c)).0 h in
+      let m = (set_with_members (converse_members r) c e (couple p.0)).0 ((in_couples (elements c) p.0).0 p.1) in
+      let q = (in_map (λ (w : Value × Value). Pair w.1 w.0) (couple p.0) (couples r)).0 m in
+      let same = same_parts p.0 (q.0.1, q.0.0) q.2 in
+      (in_map (λ (w : Value × Value). w.1) z (couples r)).1 (q.0, q.1, p.2 ∙ ap (λ (w : Value × Value). w.0) same),
   λ h.
-    let q = (in_map (λ (w : Value × Value). w.1) z (couples r)).0 h in
-    let m = (in_map (λ (w : Value × Value). Pair w.1 w.0) (Pair q.0.1 q.0.0) (couples r)).1 (q.0, q.1, refl) in
-    let k = (in_couples (elements c) (q.0.1, q.0.0)).1 ((set_with_members (converse_members r) c e (Pair q.0.1 q.0.0)).1 m) in
-    (in_map (λ (w : Value × Value). w.0) z (couples c)).1 ((q.0.1, q.0.0), k, q.2),
+      let q = (in_map (λ (w : Value × Value). w.1) z (couples r)).0 h in
+      let m = (in_map (λ (w : Value × Value). Pair w.1 w.0) (Pair q.0.1 q.0.0) (couples r)).1 (q.0, q.1, refl) in
+      let k = (in_couples (elements c) (q.0.1, q.0.0)).1 ((set_with_members (converse_members r) c e (Pair q.0.1 q.0.0)).1 m) in
+      (in_map (λ (w : Value × Value). w.0) z (couples c)).1 ((q.0.1, q.0.0), k, q.2),
 ))
 
 -- ---- sequences

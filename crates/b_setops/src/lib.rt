@@ -4,11 +4,12 @@
 mod laws;
 
 pub use b_relations::{
-    apply, closure, closure1, compose, converse, direct, dom, dom_restrict, dom_subtract, identity, image, iterate, overwrite,
-    parallel, prj1, prj2, ran, ran_restrict, ran_subtract,
+    apply, closure, closure1, compose, converse, direct, dom, dom_restrict, dom_subtract, identity,
+    image, iterate, overwrite, parallel, prj1, prj2, ran, ran_restrict, ran_subtract,
 };
 pub use b_sequences::{
-    append, conc, concat, drop_first, first, front, is_sequence, last, prepend, rev, size, tail, take,
+    append, conc, concat, drop_first, first, front, is_sequence, last, prepend, rev, size, tail,
+    take,
 };
 pub use b_sets::{
     big_inter, big_union, card, difference, intersect, interval, max, min, times, union,

@@ -38,7 +38,14 @@ fn difference_from_a_union(rt: HostRuntime) -> Result<(), Fail> {
     let t = read(alloc, &ty, "{1,3}")?;
     let u = read(alloc, &ty, "{3,5,7}")?;
     let outside = difference(alloc, &s, &union(alloc, &t, &u)?)?;
-    assert!(rt; outside == intersect(alloc, &difference(alloc, &s, &t)?, &difference(alloc, &s, &u)?)?);
+    assert!(rt;
+        outside
+            == intersect(
+                alloc,
+                &difference(alloc, &s, &t)?,
+                &difference(alloc, &s, &u)?
+            )?
+    );
     assert!(rt; outside == read(alloc, &ty, "{2,4}")?);
     Ok(())
 }
@@ -46,7 +53,11 @@ fn difference_from_a_union(rt: HostRuntime) -> Result<(), Fail> {
 #[test]
 fn domain_and_range_of_the_converse(rt: HostRuntime) -> Result<(), Fail> {
     let alloc = rt.alloc();
-    let r = read(alloc, &set_type(alloc, couple_type(alloc)?)?, "{1|->5,2|->5,2|->6}")?;
+    let r = read(
+        alloc,
+        &set_type(alloc, couple_type(alloc)?)?,
+        "{1|->5,2|->5,2|->6}",
+    )?;
     let turned = converse(alloc, &r)?;
     let numbers = read(alloc, &set_type(alloc, Ty::Int)?, "{5,6}")?;
     assert!(rt; dom(alloc, &turned)? == numbers);
