@@ -1,0 +1,13 @@
+pub mod RowLaws
+pub mod RowValues
+pub mod Searching
+pub mod Results
+pub mod Steps
+pub mod ImageLaws
+pub mod Overwriting
+pub mod Gathers
+pub mod Paths
+pub mod JoinLaws
+pub mod Reaching
+pub mod ClosureLaws
+pub mod IterateLaws
