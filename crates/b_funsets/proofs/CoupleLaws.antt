@@ -33,7 +33,7 @@ all_same_left : (x y : Value) (t : List Value) → AllAbove value_cmp y t → Al
 all_same_left x y [] h = tt
 all_same_left x y (z ∷ t) h = (same_left x y z h.0, all_same_left x y t h.1)
 
-row_ascends : (x : Value) (t : List Value) → IsAscending value_cmp t → IsAscending value_cmp (map (λ y. Pair x y) t)
+pub row_ascends : (x : Value) (t : List Value) → IsAscending value_cmp t → IsAscending value_cmp (map (λ y. Pair x y) t)
 row_ascends x [] a = ascending_none value_cmp
 row_ascends x (y ∷ t) a = ascending_cons value_cmp (Pair x y) (map (λ z. Pair x z) t) (all_same_left x y t (ascending_head value_cmp y t a)) (row_ascends x t (ascending_tail value_cmp y t a))
 

@@ -5,3 +5,13 @@ pub mod SubsetSteps
 pub mod CoupleLaws
 pub mod Refusals
 pub mod SequenceLaws
+pub mod ArrowTests
+pub mod Counting
+pub mod LevelSteps
+pub mod LevelRows
+pub mod LevelWeights
+pub mod LevelApart
+pub mod ArrowRows
+pub mod ArrowWords
+pub mod Placing
+pub mod Arranging

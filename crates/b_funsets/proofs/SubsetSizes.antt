@@ -33,7 +33,7 @@ length-sublists [] = refl
 length-sublists (x ∷ xs) =
     omega (arith, length-sublists xs, length-append (map (λ r. x ∷ r) (sublists xs)) (nonempty_sublists xs), length-map (sublists xs) (λ r. x ∷ r), pow-suc 2 (length xs))
 
-count_with_first : (x : Value) (r : List Value) → node_count (Set (x ∷ r)) ≡ node_count x + node_count (Set r)
+pub count_with_first : (x : Value) (r : List Value) → node_count (Set (x ∷ r)) ≡ node_count x + node_count (Set r)
 count_with_first x r = omega (arith, count-Set (x ∷ r), count-Set r, map_cons_sum node_count x r)
 
 total_with_first : (x : Value) (rs : List (List Value)) → total (map Set (map (λ r. x ∷ r) rs)) ≡ node_count x * length rs + total (map Set rs)
@@ -41,7 +41,7 @@ total_with_first x [] = omega arith
 total_with_first x (r ∷ rs) =
     omega (arith, total_with_first x rs, count_with_first x r, map_cons_sum node_count (Set r) (map Set rs), map_cons_sum node_count (Set (x ∷ r)) (map Set (map (λ q. x ∷ q) rs)))
 
-map_append_sets : (qs rs : List (List Value)) → map Set (qs ++ rs) ≡ map Set qs ++ map Set rs
+pub map_append_sets : (qs rs : List (List Value)) → map Set (qs ++ rs) ≡ map Set qs ++ map Set rs
 map_append_sets [] rs = refl
 map_append_sets (q ∷ qs) rs = ap (λ zs. Set q ∷ zs) (map_append_sets qs rs)
 

@@ -1,12 +1,13 @@
 -- Sets of sets, of relations and of sequences, by their members.
-use Rattle.std.specs.Prelude.{◌≡◌, ℕ, ◌+◌, pos, List, [], ◌∷◌, ◌++◌, map, Result, Ok, Err}
+use Rattle.std.specs.Prelude.{◌≡◌, List, [], ◌∷◌, ◌++◌, map, Result, Ok, Err}
 use Rattle.std.specs.List.{flat_map}
 use Rattle.ascending.specs.Ascending.{In, IsAscending}
+use Rattle.b_values.specs.Reading.{numbered}
 use Rattle.b_values.specs.Values.{elements, value_cmp}
 use Rattle.b_values.specs.declared.values.FaultKind.{FaultKind}
 use Rattle.b_values.specs.declared.values.FaultKind.TheVariants.{TooLarge}
 use Rattle.b_values.specs.declared.values.Value.{Value}
-use Rattle.b_values.specs.declared.values.Value.TheVariants.{Int, Pair, Set}
+use Rattle.b_values.specs.declared.values.Value.TheVariants.{Pair, Set}
 use Rattle.set_making.specs.Making.{set_with}
 
 -- the nonempty sublists of a list: those that begin with its first element, and those without it
@@ -33,11 +34,6 @@ pow1_row s = set_with (map Set (nonempty_sublists (elements s)))
 -- S <-> T: the relations, which are the sets of couples
 abbrev pub relations_row : Value → Value → Result Value FaultKind
 relations_row s t = set_with (map Set (sublists (couples (elements s) (elements t))))
-
--- the couples of the places k, k + 1, .. and the elements there
-abbrev pub numbered : ℕ → List Value → List Value
-numbered k [] = []
-numbered k (x ∷ xs) = Pair (Int (pos k)) x ∷ numbered (k + 1) xs
 
 -- the sequence of these elements: the function from the places 1, 2, .. to them
 abbrev pub sequence_of : List Value → Value
