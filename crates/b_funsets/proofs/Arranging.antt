@@ -51,8 +51,7 @@ module _ (t : List Value) (rising : IsAscending value_cmp t) where
       let found = rows_injections n z in
       let both = in_append z old (map (λ row. Set (read row)) (reverse rows)) in
       let more = in_below n z in
-      let count : suc n ≡ m = omega arith in
-      (
+      let count : suc n ≡ m = omega arith in (
         λ h. subst (λ k. In z (map Set (injections_below k t))) count (more.1 (elim (both.0 (subst (λ (zs : List Value). In z zs) is h)) [ inl k ↦ inl ((was z).0 k) | inr k ↦ inr (found.0 (turned.0 k)) ])),
         λ h. subst (λ (zs : List Value). In z zs) (sym is) (both.1 (elim (more.0 (subst (λ k. In z (map Set (injections_below k t))) (sym count) h)) [ inl k ↦ inl ((was z).1 k) | inr k ↦ inr (turned.1 (found.1 k)) ])),
       )
@@ -98,8 +97,7 @@ module _ (s : Value) (k : IsKept s) where
       let w = found_words (arrow true true false) (Set (places n)) s (places_kept s n k l) k z in
       let v = injection_words (Set (places n)) s z in
       let same : filter (is_such (arrow true true false) (elements (Set (places n))) (elements s)) (sublists (couples (elements (Set (places n))) (elements s))) ≡ injections (places n) (elements s) =
-      ap (λ (ps : List Value). filter (is_such (arrow true true false) ps (elements s)) (sublists (couples ps (elements s)))) (elements-Set (places n)) ∙ same_filter (places n) (elements s) in
-      (
+      ap (λ (ps : List Value). filter (is_such (arrow true true false) ps (elements s)) (sublists (couples ps (elements s)))) (elements-Set (places n)) ∙ same_filter (places n) (elements s) in (
         λ h. v.0 (w.0 (subst (λ (rs : List (List Value)). In z (map Set rs)) (sym same) h)),
         λ h. subst (λ (rs : List (List Value)). In z (map Set rs)) same (w.1 (v.1 h)),
       )
@@ -107,20 +105,20 @@ module _ (s : Value) (k : IsKept s) where
   arrangement_members : (z : Value) → In z (map Set (injections_below (suc (length (elements s))) (elements s))) ↔ IsArrangement s z
   arrangement_members z = (
     λ h. (let c = of_length (elements s) up (suc (length (elements s))) z h in
-      let l : c.size ≤ length (elements s) = (let w = c.within in omega arith) in
-      record { size = c.size; within = l; injection = (words c.size z l).0 c.member }),
+        let l : c.size ≤ length (elements s) = (let w = c.within in omega arith) in
+        record { size = c.size; within = l; injection = (words c.size z l).0 c.member }),
     λ h. in_length (elements s) up (suc (length (elements s))) z (record { size = h.size; within = (let w = h.within in omega arith); member = (words h.size z h.within).1 h.injection }),
   )
 
   are_values : AllByRecursion IsValue (map Set (injections_below (suc (length (elements s))) (elements s)))
   are_values = all_from IsValue (map Set (injections_below (suc (length (elements s))) (elements s))) (λ z h.
-    let c = of_length (elements s) up (suc (length (elements s))) z h in
-    let d = map_from Set z (injections (places c.size) (elements s)) c.member in
-    let f = (in_filter (λ r. is_function r && is_total (places c.size) r && is_one_to_one r) d.source (sublists (couples (places c.size) (elements s)))).0 d.member in
-    all_in IsValue (map Set (sublists (couples (places c.size) (elements s))))
-    (subsets_are_values (couples (places c.size) (elements s)) (couples_ascend (places c.size) (elements s) (places_ascend c.size) up)
-    (couples_are_values (places c.size) (elements s) (places_are_values c.size) (elements_are_values s k.value)))
-    z (subst (λ w. In w (map Set (sublists (couples (places c.size) (elements s))))) (sym d.is) (in_map Set d.source (sublists (couples (places c.size) (elements s))) f.0)))
+      let c = of_length (elements s) up (suc (length (elements s))) z h in
+      let d = map_from Set z (injections (places c.size) (elements s)) c.member in
+      let f = (in_filter (λ r. is_function r && is_total (places c.size) r && is_one_to_one r) d.source (sublists (couples (places c.size) (elements s)))).0 d.member in
+      all_in IsValue (map Set (sublists (couples (places c.size) (elements s))))
+      (subsets_are_values (couples (places c.size) (elements s)) (couples_ascend (places c.size) (elements s) (places_ascend c.size) up)
+      (couples_are_values (places c.size) (elements s) (places_are_values c.size) (elements_are_values s k.value)))
+      z (subst (λ w. In w (map Set (sublists (couples (places c.size) (elements s))))) (sym d.is) (in_map Set d.source (sublists (couples (places c.size) (elements s))) f.0)))
 
   module _ (t sets : List Value) (is : t ≡ elements s) (r : Result Value OpFault)
       (found : (z : Value) → In z sets ↔ In z (map Set (injections_below (suc (length t)) t))) (h : Answers (set_with sets) r) where

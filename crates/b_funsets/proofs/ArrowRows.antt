@@ -43,8 +43,10 @@ module _ (s t v : Value) (h : IsRelation s t v) where
   parts_second p m = let c = h.within p m in ap second c.parts ∙ second-Pair c.first c.second
 
   functional_words : OneImage (elements v) → IsFunctional v
-  functional_words one = record { same_image = λ x y z m n.
-    (let e = one (Pair x y) (Pair x z) m n (first-Pair x y ∙ sym (first-Pair x z)) in sym (second-Pair x y) ∙ ap second e ∙ second-Pair x z) }
+  functional_words one = record {
+    same_image = λ x y z m n.
+        (let e = one (Pair x y) (Pair x z) m n (first-Pair x y ∙ sym (first-Pair x z)) in sym (second-Pair x y) ∙ ap second e ∙ second-Pair x z);
+  }
 
   words_functional : IsFunctional v → OneImage (elements v)
   words_functional f p q m n e =
@@ -56,8 +58,10 @@ module _ (s t v : Value) (h : IsRelation s t v) where
       c.parts ∙ ap₂ Pair same image ∙ sym d.parts
 
   one_to_one_words : OneArgument (elements v) → IsOneToOne v
-  one_to_one_words one = record { same_argument = λ x y z m n.
-    (let e = one (Pair x z) (Pair y z) m n (second-Pair x z ∙ sym (second-Pair y z)) in sym (first-Pair x z) ∙ ap first e ∙ first-Pair y z) }
+  one_to_one_words one = record {
+    same_argument = λ x y z m n.
+        (let e = one (Pair x z) (Pair y z) m n (second-Pair x z ∙ sym (second-Pair y z)) in sym (first-Pair x z) ∙ ap first e ∙ first-Pair y z);
+  }
 
   words_one_to_one : IsOneToOne v → OneArgument (elements v)
   words_one_to_one f p q m n e =
@@ -69,15 +73,19 @@ module _ (s t v : Value) (h : IsRelation s t v) where
       c.parts ∙ ap₂ Pair argument same ∙ sym d.parts
 
   total_words : AllFirst (elements s) (elements v) → IsTotal s v
-  total_words all = record { image_of = λ x m. (let g = all x m in let c = h.within g.couple g.member in
-    record { image = c.second; couple = subst (λ w. In w (elements v)) (c.parts ∙ ap (λ w. Pair w c.second) (sym (parts_first g.couple g.member) ∙ g.is)) g.member }) }
+  total_words all = record {
+    image_of = λ x m. (let g = all x m in let c = h.within g.couple g.member in
+        record { image = c.second; couple = subst (λ w. In w (elements v)) (c.parts ∙ ap (λ w. Pair w c.second) (sym (parts_first g.couple g.member) ∙ g.is)) g.member });
+  }
 
   words_total : IsTotal s v → AllFirst (elements s) (elements v)
   words_total f x m = let g = f.image_of x m in record { couple = Pair x g.image; member = g.couple; is = first-Pair x g.image }
 
   onto_words : AllSecond (elements t) (elements v) → IsOnto t v
-  onto_words all = record { argument_of = λ y m. (let g = all y m in let c = h.within g.couple g.member in
-    record { argument = c.first; couple = subst (λ w. In w (elements v)) (c.parts ∙ ap (λ w. Pair c.first w) (sym (parts_second g.couple g.member) ∙ g.is)) g.member }) }
+  onto_words all = record {
+    argument_of = λ y m. (let g = all y m in let c = h.within g.couple g.member in
+        record { argument = c.first; couple = subst (λ w. In w (elements v)) (c.parts ∙ ap (λ w. Pair c.first w) (sym (parts_second g.couple g.member) ∙ g.is)) g.member });
+  }
 
   words_onto : IsOnto t v → AllSecond (elements t) (elements v)
   words_onto f y m = let g = f.argument_of y m in record { couple = Pair g.argument y; member = g.couple; is = second-Pair g.argument y }
@@ -92,17 +100,17 @@ pub record IsTested (a : Arrow) (s t r : List Value) : Type 0 where
 such_means : (a : Arrow) (s t r : List Value) → (is_such a s t r ≡ true) ↔ IsTested a s t r
 such_means a s t r = (
   λ e. (let p = and_parts _ _ e in let q = and_parts _ _ p.0 in let u = and_parts _ _ q.0 in
-    record {
-      one_image = (function_means r).0 u.0;
-      all_first = λ o. (total_means s r).0 (implies a.total (is_total s r) u.1 o);
-      one_argument = λ o. (one_to_one_means r).0 (implies a.one_to_one (is_one_to_one r) q.1 o);
-      all_second = λ o. (onto_means t r).0 (implies a.onto (is_onto t r) p.1 o);
-    }),
+      record {
+        one_image = (function_means r).0 u.0;
+        all_first = λ o. (total_means s r).0 (implies a.total (is_total s r) u.1 o);
+        one_argument = λ o. (one_to_one_means r).0 (implies a.one_to_one (is_one_to_one r) q.1 o);
+        all_second = λ o. (onto_means t r).0 (implies a.onto (is_onto t r) p.1 o);
+      }),
   λ h. both_true _ _ (both_true _ _ (both_true _ _
-    ((function_means r).1 h.one_image)
-    (implied a.total (is_total s r) (λ o. (total_means s r).1 (h.all_first o))))
-    (implied a.one_to_one (is_one_to_one r) (λ o. (one_to_one_means r).1 (h.one_argument o))))
-    (implied a.onto (is_onto t r) (λ o. (onto_means t r).1 (h.all_second o))),
+      ((function_means r).1 h.one_image)
+      (implied a.total (is_total s r) (λ o. (total_means s r).1 (h.all_first o))))
+      (implied a.one_to_one (is_one_to_one r) (λ o. (one_to_one_means r).1 (h.one_argument o))))
+      (implied a.onto (is_onto t r) (λ o. (onto_means t r).1 (h.all_second o))),
 )
 
 such_words : (a : Arrow) (s t v : Value) → IsRelation s t v → is_such a (elements s) (elements t) (elements v) ≡ true → IsSuch a s t v
@@ -142,14 +150,14 @@ module _ (a : Arrow) (s t : List Value) (up : IsAscending value_cmp s) (rising :
       let h = rows_are_parts a t rising s 0 row up m in
       (in_filter (is_such a s t) (read row) (sublists (couples s t))).1 (
         is_sublist value_cmp value_total (couples s t) (read row) (couples_ascend s t up rising) h.ascends
-        (λ z n. let o = h.within z n in subst (λ w. In w (couples s t)) (sym o.parts) (in_couples s t o.first o.second o.left o.right)),
+            (λ z n. let o = h.within z n in subst (λ w. In w (couples s t)) (sym o.parts) (in_couples s t o.first o.second o.left o.right)),
         (such_means a s t (read row)).1 (record {
           one_image = h.one_image;
           all_first = h.all_first;
           one_argument = h.one_argument;
           all_second = λ o y n. (let zero : length (free t (read row)) ≡ 0 = (let l = h.ready.hit o in let e = h.counted in let f = left_is a t rising (read row) (onto_counts a o) in omega arith) in
-            let f = any_true (λ p. same_value (second p) y) (read row) (none_left t (read row) zero y n) in
-            record { couple = f.item; member = f.member; is = (value_decides (second f.item) y).0 f.passes });
+              let f = any_true (λ p. same_value (second p) y) (read row) (none_left t (read row) zero y n) in
+              record { couple = f.item; member = f.member; is = (value_decides (second f.item) y).0 f.passes });
         }),
       )
 
@@ -173,25 +181,30 @@ module _ (a : Arrow) (s t : List Value) (up : IsAscending value_cmp s) (rising :
   pub rows_such : (z : Value) → In z (map (λ row. Set (read row)) (level a t 0 s)) ↔ In z (map Set (filter (is_such a s t) (sublists (couples s t))))
   rows_such z = (
     λ m. (let c = map_from (λ row. Set (read row)) z (level a t 0 s) m in
-      subst (λ w. In w (map Set (filter (is_such a s t) (sublists (couples s t))))) (sym c.is)
-      (in_map Set (read c.source) (filter (is_such a s t) (sublists (couples s t))) (row_is_such c.source c.member))),
+        subst (λ w. In w (map Set (filter (is_such a s t) (sublists (couples s t))))) (sym c.is)
+        (in_map Set (read c.source) (filter (is_such a s t) (sublists (couples s t))) (row_is_such c.source c.member))),
     λ m. (let c = map_from Set z (filter (is_such a s t) (sublists (couples s t))) m in
-      let d = such_is_row c.source c.member in
-      subst (λ w. In w (map (λ row. Set (read row)) (level a t 0 s))) (ap Set d.is ∙ sym c.is) (in_map (λ row. Set (read row)) d.row (level a t 0 s) d.member)),
+        let d = such_is_row c.source c.member in
+        subst (λ w. In w (map (λ row. Set (read row)) (level a t 0 s))) (ap Set d.is ∙ sym c.is) (in_map (λ row. Set (read row)) d.row (level a t 0 s) d.member)),
   )
 
   pub turned_same : (rows : List Row) (z : Value) → In z (map (λ row. Set (read row)) (reverse rows)) ↔ In z (map (λ row. Set (read row)) rows)
   turned_same rows z = (
     λ m. (let c = map_from (λ row. Set (read row)) z (reverse rows) m in
-      subst (λ w. In w (map (λ row. Set (read row)) rows)) (sym c.is) (in_map (λ row. Set (read row)) c.source rows ((in_reverse c.source rows).0 c.member))),
+        subst (λ w. In w (map (λ row. Set (read row)) rows)) (sym c.is) (in_map (λ row. Set (read row)) c.source rows ((in_reverse c.source rows).0 c.member))),
     λ m. (let c = map_from (λ row. Set (read row)) z rows m in
-      subst (λ w. In w (map (λ row. Set (read row)) (reverse rows))) (sym c.is) (in_map (λ row. Set (read row)) c.source (reverse rows) ((in_reverse c.source rows).1 c.member))),
+        subst (λ w. In w (map (λ row. Set (read row)) (reverse rows))) (sym c.is) (in_map (λ row. Set (read row)) c.source (reverse rows) ((in_reverse c.source rows).1 c.member))),
   )
 
   rows_total : (rows : List Row) → ((row : Row) → In row rows → row.nodes ≡ node_count (Set (read row))) → total (map (λ row. Set (read row)) rows) ≡ weight rows
   rows_total [] f = refl
-  rows_total (row ∷ rows) f = omega (arith, rows_total rows (λ r m. f r (inr m)), f row (inl refl),
-    map_cons_sum node_count (Set (read row)) (map (λ r. Set (read r)) rows), map_cons_sum (λ (r : Row). r.nodes) row rows)
+  rows_total (row ∷ rows) f = omega (
+    arith,
+    rows_total rows (λ r m. f r (inr m)),
+    f row (inl refl),
+    map_cons_sum node_count (Set (read row)) (map (λ r. Set (read r)) rows),
+    map_cons_sum (λ (r : Row). r.nodes) row rows,
+  )
 
   -- where a level is too large, the set of the functions is
   pub large_refused : GrowsLarge a t s → set_with (map (λ row. Set (read row)) (level a t 0 s)) ≡ Err TooLarge
@@ -214,7 +227,7 @@ module _ (a : Arrow) (s t : Value) (k : IsKept s) (l : IsKept t) where
       subst (λ (zs : List Value). Answers (set_with zs) r) (i ∙ ap (λ rs. map (λ row. Set (read row)) (reverse rs)) is) h in
       answers_same (map (λ row. Set (read row)) (reverse (level a (elements t) 0 (elements s)))) (map Set (filter (is_such a (elements s) (elements t)) (sublists (couples (elements s) (elements t))))) r
       (λ z. let u = turned_same a (elements s) (elements t) up rising (level a (elements t) 0 (elements s)) z in let w = rows_such a (elements s) (elements t) up rising z in
-        (λ m. w.0 (u.0 m), λ m. u.1 (w.1 m)))
+      (λ m. w.0 (u.0 m), λ m. u.1 (w.1 m)))
       as_sets
 
   arrows_large : GrowsLarge a (elements t) (elements s) → relations_that (is_such a (elements s) (elements t)) s t ≡ Err TooLarge
@@ -239,24 +252,23 @@ module _ (a : Arrow) (s t : Value) (k : IsKept s) (l : IsKept t) where
       (couples_are_values (elements s) (elements t) (elements_are_values s k.value) (elements_are_values t l.value)) in
       answers_kept (map Set (filter (is_such a (elements s) (elements t)) (sublists (couples (elements s) (elements t))))) r
       (all_from IsValue (map Set (filter (is_such a (elements s) (elements t)) (sublists (couples (elements s) (elements t))))) (λ z m.
-        let c = map_from Set z (filter (is_such a (elements s) (elements t)) (sublists (couples (elements s) (elements t)))) m in
-        let f = (in_filter (is_such a (elements s) (elements t)) c.source (sublists (couples (elements s) (elements t)))).0 c.member in
-        all_in IsValue (map Set (sublists (couples (elements s) (elements t)))) all z (subst (λ w. In w (map Set (sublists (couples (elements s) (elements t))))) (sym c.is) (in_map Set c.source (sublists (couples (elements s) (elements t))) f.0))))
+      let c = map_from Set z (filter (is_such a (elements s) (elements t)) (sublists (couples (elements s) (elements t)))) m in
+      let f = (in_filter (is_such a (elements s) (elements t)) c.source (sublists (couples (elements s) (elements t)))).0 c.member in
+      all_in IsValue (map Set (sublists (couples (elements s) (elements t)))) all z (subst (λ w. In w (map Set (sublists (couples (elements s) (elements t))))) (sym c.is) (in_map Set c.source (sublists (couples (elements s) (elements t))) f.0))))
       h
 
   pub found_words : (z : Value) → In z (map Set (filter (is_such a (elements s) (elements t)) (sublists (couples (elements s) (elements t))))) ↔ IsSuch a s t z
   found_words z =
       let up = elements_ascend s k.value in
-      let rising = elements_ascend t l.value in
-      (
+      let rising = elements_ascend t l.value in (
         λ m. (let c = map_from Set z (filter (is_such a (elements s) (elements t)) (sublists (couples (elements s) (elements t)))) m in
-          let f = (in_filter (is_such a (elements s) (elements t)) c.source (sublists (couples (elements s) (elements t)))).0 c.member in
-          subst (IsSuch a s t) (sym c.is) (such_words a s t (Set c.source) (relation_of_sublist s t up rising c.source f.0)
-          (subst (λ (r : List Value). is_such a (elements s) (elements t) r ≡ true) (sym (elements-Set c.source)) f.1))),
+            let f = (in_filter (is_such a (elements s) (elements t)) c.source (sublists (couples (elements s) (elements t)))).0 c.member in
+            subst (IsSuch a s t) (sym c.is) (such_words a s t (Set c.source) (relation_of_sublist s t up rising c.source f.0)
+            (subst (λ (r : List Value). is_such a (elements s) (elements t) r ≡ true) (sym (elements-Set c.source)) f.1))),
         λ h. subst (λ w. In w (map Set (filter (is_such a (elements s) (elements t)) (sublists (couples (elements s) (elements t)))))) (sym h.relation.is_set)
-          (in_map Set (elements z) (filter (is_such a (elements s) (elements t)) (sublists (couples (elements s) (elements t))))
-          ((in_filter (is_such a (elements s) (elements t)) (elements z) (sublists (couples (elements s) (elements t)))).1
-          (sublist_of_relation s t up rising z h.relation, words_such a s t z h))),
+            (in_map Set (elements z) (filter (is_such a (elements s) (elements t)) (sublists (couples (elements s) (elements t))))
+            ((in_filter (is_such a (elements s) (elements t)) (elements z) (sublists (couples (elements s) (elements t)))).1
+            (sublist_of_relation s t up rising z h.relation, words_such a s t z h))),
       )
 
   pub arrows_members : (r : Result Value OpFault) → Answers (relations_that (is_such a (elements s) (elements t)) s t) r → IfOk r (λ v. (x : Value) → In x (elements v) ↔ IsSuch a s t x)

@@ -109,8 +109,7 @@ in_reverse z [] = (λ h. h, λ h. h)
 in_reverse z (x ∷ xs) =
     let turned : reverse (x ∷ xs) ≡ reverse xs ++ x ∷ [] = reverse-append (x ∷ []) xs in
     let both = in_append z (reverse xs) (x ∷ []) in
-    let more = in_reverse z xs in
-    (
+    let more = in_reverse z xs in (
       λ h. elim (both.0 (subst (In z) turned h)) [ inl m ↦ inr (more.0 m) | inr m ↦ elim m [ inl e ↦ inl e | inr k ↦ absurd k ] ],
       λ h. subst (In z) (sym turned) (both.1 (elim h [ inl e ↦ inr (inl e) | inr m ↦ inl (more.1 m) ])),
     )
@@ -159,7 +158,7 @@ module _ (f : Value → Value) where
 
   says_apart : (r : List Value) → ((p q : Value) → In p r → In q r → f p ≡ f q → p ≡ q) → list_all (λ p. list_all (λ q. not (same_value (f p) (f q)) || same_value p q) r) r ≡ true
   says_apart r one = true_all (λ p. list_all (λ q. not (same_value (f p) (f q)) || same_value p q) r) r (λ p h.
-    true_all (λ q. not (same_value (f p) (f q)) || same_value p q) r (λ q k.
+      true_all (λ q. not (same_value (f p) (f q)) || same_value p q) r (λ q k.
       implied (same_value (f p) (f q)) (same_value p q) (λ e. (value_decides p q).1 (one p q h k ((value_decides (f p) (f q)).0 e)))))
 
 pub function_means : (r : List Value) → (is_function r ≡ true) ↔ OneImage r
@@ -171,15 +170,15 @@ one_to_one_means r = (apart_says second r, says_apart second r)
 pub total_means : (s r : List Value) → (is_total s r ≡ true) ↔ AllFirst s r
 total_means s r = (
   λ e x h. (let g = any_true (λ p. same_value (first p) x) r (all_true (λ x. list_any (λ p. same_value (first p) x) r) s e x h) in
-    record { couple = g.item; member = g.member; is = (value_decides (first g.item) x).0 g.passes }),
+      record { couple = g.item; member = g.member; is = (value_decides (first g.item) x).0 g.passes }),
   λ f. true_all (λ x. list_any (λ p. same_value (first p) x) r) s (λ x h.
-    let g = f x h in true_any (λ p. same_value (first p) x) r g.couple g.member ((value_decides (first g.couple) x).1 g.is)),
+      let g = f x h in true_any (λ p. same_value (first p) x) r g.couple g.member ((value_decides (first g.couple) x).1 g.is)),
 )
 
 pub onto_means : (t r : List Value) → (is_onto t r ≡ true) ↔ AllSecond t r
 onto_means t r = (
   λ e y h. (let g = any_true (λ p. same_value (second p) y) r (all_true (λ y. list_any (λ p. same_value (second p) y) r) t e y h) in
-    record { couple = g.item; member = g.member; is = (value_decides (second g.item) y).0 g.passes }),
+      record { couple = g.item; member = g.member; is = (value_decides (second g.item) y).0 g.passes }),
   λ f. true_all (λ y. list_any (λ p. same_value (second p) y) r) t (λ y h.
-    let g = f y h in true_any (λ p. same_value (second p) y) r g.couple g.member ((value_decides (second g.couple) y).1 g.is)),
+      let g = f y h in true_any (λ p. same_value (second p) y) r g.couple g.member ((value_decides (second g.couple) y).1 g.is)),
 )

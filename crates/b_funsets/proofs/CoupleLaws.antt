@@ -61,13 +61,13 @@ pub couples_ascend : (s t : List Value) → IsAscending value_cmp s → IsAscend
 couples_ascend [] t a b = ascending_none value_cmp
 couples_ascend (x ∷ s) t a b = ascending_join value_cmp (map (λ y. Pair x y) t) (couples s t) (row_ascends x t b) (couples_ascend s t (ascending_tail value_cmp x s a) b)
     (λ z h. let c = map_from (λ y. Pair x y) z t h in
-      all_from (λ w. value_cmp z w ≡ Less) (couples s t) (λ w k. let d = couple_from s t w k in
-        subst (λ v. value_cmp v w ≡ Less) (sym c.is) (subst (λ v. value_cmp (Pair x c.source) v ≡ Less) (sym d.parts)
-          (lower_left x c.source d.first d.second (all_in (λ v. value_cmp x v ≡ Less) s (ascending_head value_cmp x s a) d.first d.left)))))
+    all_from (λ w. value_cmp z w ≡ Less) (couples s t) (λ w k. let d = couple_from s t w k in
+    subst (λ v. value_cmp v w ≡ Less) (sym c.is) (subst (λ v. value_cmp (Pair x c.source) v ≡ Less) (sym d.parts)
+    (lower_left x c.source d.first d.second (all_in (λ v. value_cmp x v ≡ Less) s (ascending_head value_cmp x s a) d.first d.left)))))
 
 pub couples_are_values : (s t : List Value) → AllByRecursion IsValue s → AllByRecursion IsValue t → AllByRecursion IsValue (couples s t)
 couples_are_values s t k l = all_from IsValue (couples s t) (λ z h. let c = couple_from s t z h in
-  subst IsValue (sym c.parts) (is_couple c.first c.second (all_in IsValue s k c.first c.left) (all_in IsValue t l c.second c.right)))
+    subst IsValue (sym c.parts) (is_couple c.first c.second (all_in IsValue s k c.first c.left) (all_in IsValue t l c.second c.right)))
 
 pub length-couples : (s t : List Value) → length (couples s t) ≡ length s * length t
 length-couples [] t = omega arith
@@ -81,7 +81,7 @@ module _ (s t : Value) (a : IsAscending value_cmp (elements s)) (b : IsAscending
     is_set = ap Set (sym (elements-Set r));
     ascends = subst (IsAscending value_cmp) (sym (elements-Set r)) (sublist_ascends value_cmp (couples (elements s) (elements t)) r (couples_ascend (elements s) (elements t) a b) h);
     within = λ z m. (let c = couple_from (elements s) (elements t) z (sublist_within (couples (elements s) (elements t)) r h z (subst (In z) (elements-Set r) m)) in
-      record { first = c.first; second = c.second; parts = c.parts; left = c.left; right = c.right });
+        record { first = c.first; second = c.second; parts = c.parts; left = c.left; right = c.right });
   }
 
   pub sublist_of_relation : (v : Value) → IsRelation s t v → In (elements v) (sublists (couples (elements s) (elements t)))

@@ -43,8 +43,8 @@ nonempty_subsets_ascend xs a = ascending_tail value_cmp (Set []) (map Set (nonem
 -- the sets of sublists of values are values
 pub subsets_are_values : (xs : List Value) → IsAscending value_cmp xs → AllByRecursion IsValue xs → AllByRecursion IsValue (map Set (sublists xs))
 subsets_are_values xs a k = all_from IsValue (map Set (sublists xs)) (λ z h.
-  let c = map_from Set z (sublists xs) h in
-  subst IsValue (sym c.is) (is_set c.source (sublist_ascends value_cmp xs c.source a c.member)
+    let c = map_from Set z (sublists xs) h in
+    subst IsValue (sym c.is) (is_set c.source (sublist_ascends value_cmp xs c.source a c.member)
     (all_from IsValue c.source (λ w m. all_in IsValue xs k w (sublist_within xs c.source c.member w m)))))
 
 -- ---- the members of a set of subsets
@@ -69,7 +69,7 @@ module _ (s : Value) (a : IsAscending value_cmp (elements s)) where
   pub nonempty_subset_members : (z : Value) → In z (map Set (nonempty_sublists (elements s))) ↔ IsNonemptySubset s z
   nonempty_subset_members z = (
     λ h. (let c = map_from Set z (nonempty_sublists (elements s)) h in
-      subst (IsNonemptySubset s) (sym c.is) (has_member c.source c.member)),
+        subst (IsNonemptySubset s) (sym c.is) (has_member c.source c.member)),
     λ h. elim ((subset_members z).1 h.subset) [
       | inl e ↦ absurd (subst (In h.member) (ap elements e ∙ elements-Set []) h.is_member)
       | inr m ↦ m

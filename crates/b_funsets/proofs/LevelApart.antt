@@ -84,8 +84,8 @@ module _ (a : Arrow) (t : List Value) (rising : IsAscending value_cmp t) where
   kid_cases : (k : ℕ) (x : Value) (row kid : Row) → In kid (kids a k (nat_lt 0 (length t)) (map (λ y. Pair x y) t) row) → (read kid ≡ read row) ⊎ ((y : Value) × (read kid ≡ Pair x y ∷ read row))
   kid_cases k x row kid m = elim ((in_append kid (map (extended row) (filter (takes a k (nat_lt 0 (length t)) row) (map (λ y. Pair x y) t))) (if skips a k (nat_lt 0 (length t)) row then row ∷ [] else [])).0 m) [
     | inl n ↦ (let c = map_from (extended row) kid (filter (takes a k (nat_lt 0 (length t)) row) (map (λ y. Pair x y) t)) n in
-      let d = map_from (λ y. Pair x y) c.source t ((in_filter (takes a k (nat_lt 0 (length t)) row) c.source (map (λ y. Pair x y) t)).0 c.member).0 in
-      inr (d.source, ap read c.is ∙ read_extended row c.source ∙ ap (λ w. w ∷ read row) d.is))
+        let d = map_from (λ y. Pair x y) c.source t ((in_filter (takes a k (nat_lt 0 (length t)) row) c.source (map (λ y. Pair x y) t)).0 c.member).0 in
+        inr (d.source, ap read c.is ∙ read_extended row c.source ∙ ap (λ w. w ∷ read row) d.is))
     | inr n ↦ inl (same (skips a k (nat_lt 0 (length t)) row) n)
   ]
     where
@@ -110,7 +110,7 @@ module _ (a : Arrow) (t : List Value) (rising : IsAscending value_cmp t) where
       across false y z m n e = n
       across true y z m n e = elim n [
         | inl g ↦ (let c = map_from (extended row) y (filter (takes a k (nat_lt 0 (length t)) row) (map (λ y. Pair x y) t)) m in
-          longer_is_not c.source (read row) (sym (ap read c.is ∙ read_extended row c.source) ∙ e ∙ ap read g))
+            longer_is_not c.source (read row) (sym (ap read c.is ∙ read_extended row c.source) ∙ e ∙ ap read g))
         | inr g ↦ g
       ]
 
@@ -161,9 +161,12 @@ insert_fresh x (y ∷ ys) f = go (value_cmp x y) refl (insert_fresh x ys (λ m. 
 
 pub set_total : (zs : List Value) → Apart (λ (z : Value). z) zs → total (set_of value_cmp zs) ≡ total zs
 set_total [] a = refl
-set_total (z ∷ zs) a = omega (arith,
+set_total (z ∷ zs) a = omega (
+  arith,
   insert_fresh z (set_of value_cmp zs) (λ m. a.0 z ((in_set_of value_cmp value_total value_same z zs).0 m) refl),
-  set_total zs a.1, map_cons_sum node_count z zs)
+  set_total zs a.1,
+  map_cons_sum node_count z zs,
+)
 
 -- the sets of rows stand apart where the rows do
 pub sets_apart : (rows : List Row) → Apart read rows → Apart (λ (z : Value). z) (map (λ row. Set (read row)) rows)

@@ -78,10 +78,9 @@ pub takes_means : (a : Arrow) (k : ℕ) (some : Bool) (row : Row) (c : Value) �
     (takes a k some row c ≡ true) ↔ ((a.one_to_one ≡ true → hits (read row) (second c) ≡ false) × IsReady a k (left_after row.left (hits (read row) (second c))) some)
 takes_means a k some row c =
     let turned : hits (read row) (second c) ≡ hits row.couples (second c) = hits_reverse row.couples (second c) in
-    let means = ready_means a k (left_after row.left (hits row.couples (second c))) some in
-    (
+    let means = ready_means a k (left_after row.left (hits row.couples (second c))) some in (
       λ e. (let p = and_parts _ _ e in
-        (λ o. turned ∙ not_true _ (implies a.one_to_one (not (hits row.couples (second c))) p.0 o), subst (λ b. IsReady a k (left_after row.left b) some) (sym turned) (means.0 p.1))),
+          (λ o. turned ∙ not_true _ (implies a.one_to_one (not (hits row.couples (second c))) p.0 o), subst (λ b. IsReady a k (left_after row.left b) some) (sym turned) (means.0 p.1))),
       λ h. both_true _ _ (implied a.one_to_one (not (hits row.couples (second c))) (λ o. ap not (sym turned ∙ h.0 o))) (means.1 (subst (λ b. IsReady a k (left_after row.left b) some) turned h.1)),
     )
 
@@ -98,8 +97,8 @@ module _ (a : Arrow) (t : List Value) (rising : IsAscending value_cmp t) where
     ];
     ascends = ascending_cons value_cmp (Pair x y) r
         (all_from (λ z. value_cmp (Pair x y) z ≡ Less) r (λ z n. let o = h.within z n in
-          subst (λ w. value_cmp (Pair x y) w ≡ Less) (sym o.parts)
-          (lower_left x y o.first o.second (all_in (λ w. value_cmp x w ≡ Less) s (ascending_head value_cmp x s up) o.first o.left))))
+        subst (λ w. value_cmp (Pair x y) w ≡ Less) (sym o.parts)
+        (lower_left x y o.first o.second (all_in (λ w. value_cmp x w ≡ Less) s (ascending_head value_cmp x s up) o.first o.left))))
         h.ascends;
     one_image = λ p q n l e. elim n [
       | inl f ↦ elim l [
@@ -196,7 +195,7 @@ module _ (a : Arrow) (t : List Value) (rising : IsAscending value_cmp t) where
       same false e n = absurd n
       same true e n = elim n [
         | inl f ↦ (let p = and_parts _ _ e in
-          subst (IsPartRow a (x ∷ s) t k) (sym f) (part_skipped s (read row) k row.left row.nodes x (not_true a.total p.0) h ((ready_means a k row.left (nat_lt 0 (length t))).0 p.1)))
+            subst (IsPartRow a (x ∷ s) t k) (sym f) (part_skipped s (read row) k row.left row.nodes x (not_true a.total p.0) h ((ready_means a k row.left (nat_lt 0 (length t))).0 p.1)))
         | inr f ↦ absurd f
       ]
 
@@ -237,7 +236,7 @@ module _ (a : Arrow) (t : List Value) (rising : IsAscending value_cmp t) where
       → (IsWanted s (k + 1) r → Reached (level a t (k + 1) s) r) → Reached (level a t k (x ∷ s)) r
   skip_case s k x r up h narrow ih = elim (either_way a.total) [
     | inl o ↦ absurd (let g = h.all_first o x (inl refl) in let c = narrow g.couple g.member in
-      not_later x s up (subst (λ w. In w s) (sym (first_of g.couple c) ∙ g.is) c.left))
+        not_later x s up (subst (λ w. In w s) (sym (first_of g.couple c) ∙ g.is) c.left))
     | inr o ↦ over o (ih (narrowed o))
   ]
     where
@@ -288,8 +287,8 @@ module _ (a : Arrow) (t : List Value) (rising : IsAscending value_cmp t) where
     | inl e ↦ elim n [
       | inl f ↦ absurd (not_later x s up (subst (λ v. In v s) (sym (first_of z o) ∙ ap first (sym f) ∙ first_of w p ∙ e) l))
       | inr g ↦ absurd (not_below_itself value_cmp value_total z (value_total.trans z w z
-        (all_in (λ v. value_cmp z v ≡ Less) q (ascending_head value_cmp z q h.ascends) w g)
-        (subst (λ v. value_cmp w v ≡ Less) (sym o.parts) (subst (λ v. value_cmp v (Pair o.first o.second) ≡ Less) (sym (p.parts ∙ ap (λ v. Pair v p.second) e))
+          (all_in (λ v. value_cmp z v ≡ Less) q (ascending_head value_cmp z q h.ascends) w g)
+          (subst (λ v. value_cmp w v ≡ Less) (sym o.parts) (subst (λ v. value_cmp v (Pair o.first o.second) ≡ Less) (sym (p.parts ∙ ap (λ v. Pair v p.second) e))
           (lower_left x p.second o.first o.second (all_in (λ v. value_cmp x v ≡ Less) s (ascending_head value_cmp x s up) o.first l))))))
     ]
   ]
@@ -313,7 +312,7 @@ module _ (a : Arrow) (t : List Value) (rising : IsAscending value_cmp t) where
       fresh : a.one_to_one ≡ true → hits q (second (Pair x y)) ≡ false
       fresh o = elim (either_way (hits q (second (Pair x y)))) [
         | inl e ↦ absurd (let f = any_true (λ p. same_value (second p) (second (Pair x y))) q e in
-          not_again f.item f.member (h.one_argument o f.item (Pair x y) (inr f.member) (inl refl) ((value_decides (second f.item) (second (Pair x y))).0 f.passes)))
+            not_again f.item f.member (h.one_argument o f.item (Pair x y) (inr f.member) (inl refl) ((value_decides (second f.item) (second (Pair x y))).0 f.passes)))
         | inr e ↦ e
       ]
 
@@ -374,7 +373,7 @@ module _ (a : Arrow) (t : List Value) (rising : IsAscending value_cmp t) where
   all_there (x ∷ s) k [] up h = skip_case s k x [] up h (λ z n. absurd n) (λ w. all_there s (k + 1) [] (ascending_tail value_cmp x s up) w)
   all_there (x ∷ s) k (z ∷ q) up h = let o = h.within z (inl refl) in elim o.left [
     | inl e ↦ (let is : z ≡ Pair x o.second = o.parts ∙ ap (λ w. Pair w o.second) e in
-      subst (λ w. Reached (level a t k (x ∷ s)) (w ∷ q)) (sym is)
-      (take_case s k x o.second q up o.right (subst (λ w. IsWanted (x ∷ s) k (w ∷ q)) is h) (λ w. all_there s (k + 1) q (ascending_tail value_cmp x s up) w)))
+        subst (λ w. Reached (level a t k (x ∷ s)) (w ∷ q)) (sym is)
+        (take_case s k x o.second q up o.right (subst (λ w. IsWanted (x ∷ s) k (w ∷ q)) is h) (λ w. all_there s (k + 1) q (ascending_tail value_cmp x s up) w)))
     | inr l ↦ skip_case s k x (z ∷ q) up h (narrow_all s k x z q up h o l) (λ w. all_there s (k + 1) (z ∷ q) (ascending_tail value_cmp x s up) w)
   ]

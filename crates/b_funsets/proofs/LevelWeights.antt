@@ -74,12 +74,14 @@ module _ (a : Arrow) (t : List Value) (rising : IsAscending value_cmp t) where
   ]
     where
       go : a.one_to_one ≡ false → nat_lt 0 (length t) ≡ true → (y : Value) → In y t → IsCarried (kids a k (nat_lt 0 (length t)) (map (λ y. Pair x y) t) row) row
-      go o w y m = takes_on s k x y row m ((takes_means a k (nat_lt 0 (length t)) row (Pair x y)).1
-          (λ f. absurd cc, record {
-            hit = λ f. (let u = at_most row.left (hits (read row) (second (Pair x y))) in omega arith);
-            enough = λ f g. absurd cc;
-            any = λ f. inr w;
-          }))
+      go o w y m = takes_on s k x y row m ((takes_means a k (nat_lt 0 (length t)) row (Pair x y)).1 (
+        λ f. absurd cc,
+        record {
+          hit = λ f. (let u = at_most row.left (hits (read row) (second (Pair x y))) in omega arith);
+          enough = λ f g. absurd cc;
+          any = λ f. inr w;
+        },
+      ))
 
   -- each row is carried on
   pub carried : (s : List Value) (k : ℕ) (x : Value) (row : Row) → IsPartRow a s t (k + 1) row → IsCarried (kids a k (nat_lt 0 (length t)) (map (λ y. Pair x y) t) row) row
@@ -104,8 +106,8 @@ module _ (a : Arrow) (t : List Value) (rising : IsAscending value_cmp t) where
       let g = kids a k (nat_lt 0 (length t)) (map (λ y. Pair x y) t) in
       let more : weight (reverse (level a t (k + 1) s)) ≤ weight (flat_map g (reverse (level a t (k + 1) s))) =
       flat_weight g (reverse (level a t (k + 1) s)) (λ row m.
-        let c = carried s k x row (rows_are_parts a t rising s (k + 1) row (ascending_tail value_cmp x s up) ((in_reverse row (level a t (k + 1) s)).0 m)) in
-        omega (arith, c.heavier, map_member_sum (λ (r : Row). r.nodes) c.kid (g row) c.member)) in
+      let c = carried s k x row (rows_are_parts a t rising s (k + 1) row (ascending_tail value_cmp x s up) ((in_reverse row (level a t (k + 1) s)).0 m)) in
+      omega (arith, c.heavier, map_member_sum (λ (r : Row). r.nodes) c.kid (g row) c.member)) in
       omega (arith, weight_reverse (level a t (k + 1) s))
 
   rest_ascends : (k : ℕ) (s : List Value) → IsAscending value_cmp s → IsAscending value_cmp (drop k s)

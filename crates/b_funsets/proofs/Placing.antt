@@ -43,7 +43,7 @@ below m n h = sym (int_cmp_is (pos m) (pos n) Less (let k : pos m <ℤ pos n = o
 pub places_ascend : (n : ℕ) → IsAscending value_cmp (places n)
 places_ascend zero = ascending_none value_cmp
 places_ascend (suc n) = ascending_push value_cmp (places n) (Int (pos (suc n))) (places_ascend n) (λ z h. let p = place_from n z h in
-  subst (λ w. value_cmp w (Int (pos (suc n))) ≡ Less) (sym p.is) (cmp-Int p.number (suc n) ∙ below p.number (suc n) (let w = p.within in omega arith)))
+    subst (λ w. value_cmp w (Int (pos (suc n))) ≡ Less) (sym p.is) (cmp-Int p.number (suc n) ∙ below p.number (suc n) (let w = p.within in omega arith)))
 
 pub places_are_values : (n : ℕ) → AllByRecursion IsValue (places n)
 places_are_values zero = tt

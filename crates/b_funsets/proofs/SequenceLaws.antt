@@ -1,16 +1,20 @@
 -- The sequences over the empty set.
-use Rattle.std.proofs.Common.{◌≡◌, ◌↔◌, ◌==◌, true, List, [], ◌∷◌, length, refl, sym, ap, ◌∙◌, subst, inl, inr, Result, arith}
+use Rattle.std.proofs.Common.{ℕ, zero, suc, ◌+◌, ◌≤◌, map, sum, ◌≡◌, ◌↔◌, ◌==◌, true, List, [], ◌∷◌, length, refl, sym, ap, ◌∙◌, subst, inl, inr, Result, arith}
 use borrow.Author.Tests.{eqb-true}
 use Rattle.std.specs.Prelude.{IfOk}
 use Rattle.ascending.specs.Ascending.{In, IsAscending}
 use Rattle.ascending.specs.AscendingLaws.{ascending_none}
-use Rattle.b_values.specs.Values.{elements, value_cmp, IsValue, IsKept}
+use Rattle.b_values.specs.Reading.{numbered}
+use Rattle.b_values.specs.SizeLaws.{count-Set}
+use Rattle.b_values.specs.Values.{elements, node_count, value_cmp, IsValue, IsKept}
 use Rattle.b_values.specs.ValueLaws.{is_set}
 use Rattle.b_values.specs.declared.values.Value.{Value}
 use Rattle.b_values.specs.declared.values.Value.TheVariants.{Set}
 use Rattle.set_making.specs.Making.{set_with, Answers}
 use Rattle.set_making.specs.MakingLaws.{answers_law, answers_kept}
 use Rattle.set_making.specs.declared.OpFault.{OpFault}
+use Rattle.set_making.specs.Sums.{map_member_sum, length_below_sum}
+use Rattle.b_funsets.proofs.SubsetSizes.{node_positive}
 use Rattle.b_funsets.specs.Families.{sequence_of, IsSequence, IsNonemptySequence}
 
 pub empty_from : {X : Type 0} (xs : List X) → true ≡ (length xs == 0) → xs ≡ []
@@ -45,3 +49,28 @@ seq_kept items r i h = answers_kept (sequence_of [] ∷ []) r (is_set [] (ascend
 
 pub seq1_kept : (items : List Value) (r : Result Value OpFault) → items ≡ [] → Answers (set_with items) r → IfOk r (λ v. IsKept v)
 seq1_kept items r i h = answers_kept [] r tt (subst (λ (ys : List Value). Answers (set_with ys) r) i h)
+
+-- ---- why sequences of a member are too many
+
+copies : ℕ → Value → List Value
+copies zero x = []
+copies (suc n) x = x ∷ copies n x
+
+in_copies : (n : ℕ) (x z : Value) → In z (copies n x) → z ≡ x
+unfolding copies
+in_copies zero x z h = absurd h
+in_copies (suc n) x z (inl e) = e
+in_copies (suc n) x z (inr h) = in_copies n x z h
+
+length-copies : (n k : ℕ) (x : Value) → length (numbered k (copies n x)) ≡ n
+unfolding copies
+length-copies zero k x = refl
+length-copies (suc n) k x = let more = length-copies n (k + 1) x in omega arith
+
+-- no list has all sequences of members of a set with a member
+pub no_end : (s x : Value) → In x (elements s) → (zs : List Value) → ((z : Value) → IsSequence s z → In z zs) → ⊥
+no_end s x h zs all =
+    let n = sum (map node_count zs) + 1 in
+    let z = sequence_of (copies n x) in
+    let there : In z zs = all z (record { items = copies n x; is = refl; within = λ w m. subst (λ v. In v (elements s)) (sym (in_copies n x w m)) h }) in
+    omega (arith, map_member_sum node_count z zs there, count-Set (numbered 1 (copies n x)), length_below_sum node_count node_positive (numbered 1 (copies n x)), length-copies n 1 x)

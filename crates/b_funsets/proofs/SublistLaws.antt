@@ -128,7 +128,7 @@ module _ {K : Type 0} (R : K → K → Ordering) (o : IsTotalOrder R) where
       (map_first_ascends x (sublists xs) more)
       (ascending_tail (slice_cmp R) [] (nonempty_sublists xs) more)
       (λ z h. let c = map_from (λ q. x ∷ q) z (sublists xs) h in
-        all_from (λ r. slice_cmp R z r ≡ Less) (nonempty_sublists xs)
-        (λ r m. first_is_member xs r (λ q. slice_cmp R z q ≡ Less) m
-          (λ y q k. subst (λ w. slice_cmp R w (y ∷ q) ≡ Less) (sym c.is)
-            (ap (λ t. ordering_then t (slice_cmp R c.source q)) (all_in (λ w. R x w ≡ Less) xs (ascending_head R x xs a) y k))))))
+      all_from (λ r. slice_cmp R z r ≡ Less) (nonempty_sublists xs)
+      (λ r m. first_is_member xs r (λ q. slice_cmp R z q ≡ Less) m
+      (λ y q k. subst (λ w. slice_cmp R w (y ∷ q) ≡ Less) (sym c.is)
+      (ap (λ t. ordering_then t (slice_cmp R c.source q)) (all_in (λ w. R x w ≡ Less) xs (ascending_head R x xs a) y k))))))

@@ -79,7 +79,12 @@ fn arrangements(alloc: Global, t: &[Value]) -> Result<Vec<Value>, OpFault>
     Ok(sets)
 }
 
-fn with_injections(alloc: Global, k: usize, t: &[Value], sets: Vec<Value>) -> Result<Vec<Value>, OpFault>
+fn with_injections(
+    alloc: Global,
+    k: usize,
+    t: &[Value],
+    sets: Vec<Value>,
+) -> Result<Vec<Value>, OpFault>
     ensures found { IfOk result (λ more. more.items ≡ sets.items ++ map (λ row. Set (read row)) (reverse (level TOTAL_INJ t.now 0 (places k)))) }
     ensures refused { IfErr result (λ e. Gives [] (GrowsLarge TOTAL_INJ t.now (places k)) (Err e)) }
 {

@@ -56,7 +56,11 @@ fn first_rows(alloc: Global, a: Arrow, n: usize, k: usize) -> Result<Items<Row>,
     ensures { IfOk result (λ rows. rows ≡ start a n k) }
 {
     let mut rows = Items::new(alloc);
-    let left = if a.onto || (a.total && a.one_to_one) { n } else { 0 };
+    let left = if a.onto || (a.total && a.one_to_one) {
+        n
+    } else {
+        0
+    };
     if is_viable(a, k, left, n > 0) {
         rows.push(Row {
             couples: Items::new(alloc),
@@ -67,7 +71,14 @@ fn first_rows(alloc: Global, a: Arrow, n: usize, k: usize) -> Result<Items<Row>,
     Ok(rows)
 }
 
-fn next_level(alloc: Global, a: Arrow, k: usize, x: &Value, t: &[Value], rows: Items<Row>) -> Result<Items<Row>, OpFault>
+fn next_level(
+    alloc: Global,
+    a: Arrow,
+    k: usize,
+    x: &Value,
+    t: &[Value],
+    rows: Items<Row>,
+) -> Result<Items<Row>, OpFault>
     ensures { let next = flat_map (kids a k (nat_lt 0 (length t.now)) (map (λ y. Pair x.now y) t.now)) (reverse rows) in Gives next (999999 < weight next) result }
 {
     let mut cs = Items::new(alloc);
@@ -77,7 +88,14 @@ fn next_level(alloc: Global, a: Arrow, k: usize, x: &Value, t: &[Value], rows: I
     grown(alloc, a, k, !t.is_empty(), cs.as_slice(), rows)
 }
 
-fn grown(alloc: Global, a: Arrow, k: usize, some: bool, cs: &[Value], rows: Items<Row>) -> Result<Items<Row>, OpFault>
+fn grown(
+    alloc: Global,
+    a: Arrow,
+    k: usize,
+    some: bool,
+    cs: &[Value],
+    rows: Items<Row>,
+) -> Result<Items<Row>, OpFault>
     ensures { let next = flat_map (kids a k some cs.now) (reverse rows) in Gives next (999999 < weight next) result }
 {
     let mut rows = rows;
@@ -93,7 +111,16 @@ fn grown(alloc: Global, a: Arrow, k: usize, some: bool, cs: &[Value], rows: Item
 }
 
 /// The rows that one becomes. The last of them takes its couples, the others share them.
-fn push_kids(alloc: Global, a: Arrow, k: usize, some: bool, cs: &[Value], row: Row, rows: &mut Items<Row>, budget: u64) -> Result<u64, OpFault>
+fn push_kids(
+    alloc: Global,
+    a: Arrow,
+    k: usize,
+    some: bool,
+    cs: &[Value],
+    row: Row,
+    rows: &mut Items<Row>,
+    budget: u64,
+) -> Result<u64, OpFault>
     ensures spends { Spends (weight (kids a k some cs.now row)) budget result }
     ensures pushed { OnOk result (rows.new ≡ rows.old ++ kids a k some cs.now row) }
 {
@@ -115,7 +142,13 @@ fn push_kids(alloc: Global, a: Arrow, k: usize, some: bool, cs: &[Value], row: R
     }
 }
 
-fn push_copies(alloc: Global, rows: &mut Items<Row>, budget: u64, row: &Row, ps: &[Value]) -> Result<u64, OpFault>
+fn push_copies(
+    alloc: Global,
+    rows: &mut Items<Row>,
+    budget: u64,
+    row: &Row,
+    ps: &[Value],
+) -> Result<u64, OpFault>
     ensures spends { Spends (weight (map (extended row.now) ps.now)) budget result }
     ensures pushed { OnOk result (rows.new ≡ rows.old ++ map (extended row.now) ps.now) }
 {
@@ -129,7 +162,13 @@ fn push_copies(alloc: Global, rows: &mut Items<Row>, budget: u64, row: &Row, ps:
     Ok(rest)
 }
 
-fn push_copy(alloc: Global, rows: &mut Items<Row>, budget: u64, row: &Row, c: &Value) -> Result<u64, OpFault>
+fn push_copy(
+    alloc: Global,
+    rows: &mut Items<Row>,
+    budget: u64,
+    row: &Row,
+    c: &Value,
+) -> Result<u64, OpFault>
     ensures spends { Spends (row.now.nodes + node_count c.now) budget result }
     ensures pushed { OnOk result (rows.new ≡ rows.old ++ extended row.now c.now ∷ []) }
 {
@@ -193,7 +232,14 @@ fn push_row(rows: &mut Items<Row>, budget: u64, row: Row) -> Result<u64, OpFault
     }
 }
 
-fn taken(alloc: Global, a: Arrow, k: usize, some: bool, row: &Row, cs: &[Value]) -> Result<Items<Value>, AllocError>
+fn taken(
+    alloc: Global,
+    a: Arrow,
+    k: usize,
+    some: bool,
+    row: &Row,
+    cs: &[Value],
+) -> Result<Items<Value>, AllocError>
     ensures { IfOk result (λ ps. ps ≡ filter (takes a k some row.now) cs.now) }
 {
     let mut ps = Items::new(alloc);

@@ -167,7 +167,12 @@ fn couples_of(alloc: Global, s: &[Value], t: &[Value]) -> Result<Items<Value>, A
     Ok(cs)
 }
 
-pub fn push_couples(alloc: Global, cs: &mut Items<Value>, x: &Value, t: &[Value]) -> Result<(), AllocError>
+pub fn push_couples(
+    alloc: Global,
+    cs: &mut Items<Value>,
+    x: &Value,
+    t: &[Value],
+) -> Result<(), AllocError>
     ensures { OnOk result (cs.new ≡ cs.old ++ map (λ y. Pair x.now y) t.now) }
 {
     for y in t {

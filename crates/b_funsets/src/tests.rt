@@ -102,7 +102,14 @@ fn check_one(rt: &impl Abort, alloc: Global, op: One, s: &str, want: &str) -> Re
     Ok(())
 }
 
-fn check_two(rt: &impl Abort, alloc: Global, op: Two, s: &str, t: &str, want: &str) -> Result<(), Fail> {
+fn check_two(
+    rt: &impl Abort,
+    alloc: Global,
+    op: Two,
+    s: &str,
+    t: &str,
+    want: &str,
+) -> Result<(), Fail> {
     let s = numbers(alloc, s)?;
     let t = numbers(alloc, t)?;
     let got = told(alloc, apply_two(alloc, op, &s, &t))?;
@@ -122,21 +129,76 @@ fn answers_one_operand(rt: HostRuntime) -> Result<(), Fail> {
     check_one(&rt, alloc, One::Seq1, "{}", "{}")?;
     check_one(&rt, alloc, One::Seq1, "{1}", "too-large")?;
     check_one(&rt, alloc, One::Iseq, "{7}", "{{},{(1|->7)}}")?;
-    check_one(&rt, alloc, One::Perm, "{7,8}", "{{(1|->7),(2|->8)},{(1|->8),(2|->7)}}")
+    check_one(
+        &rt,
+        alloc,
+        One::Perm,
+        "{7,8}",
+        "{{(1|->7),(2|->8)},{(1|->8),(2|->7)}}",
+    )
 }
 
 #[test]
 fn answers_two_operands(rt: HostRuntime) -> Result<(), Fail> {
     let alloc = rt.alloc();
     check_two(&rt, alloc, Two::Relations, "{1}", "{3}", "{{},{(1|->3)}}")?;
-    check_two(&rt, alloc, Two::Partial, "{1}", "{3,4}", "{{},{(1|->3)},{(1|->4)}}")?;
-    check_two(&rt, alloc, Two::PartialInj, "{1,2}", "{3}", "{{},{(1|->3)},{(2|->3)}}")?;
-    check_two(&rt, alloc, Two::PartialSurj, "{1,2}", "{3}", "{{(1|->3)},{(1|->3),(2|->3)},{(2|->3)}}")?;
-    check_two(&rt, alloc, Two::Total, "{1}", "{3,4}", "{{(1|->3)},{(1|->4)}}")?;
+    check_two(
+        &rt,
+        alloc,
+        Two::Partial,
+        "{1}",
+        "{3,4}",
+        "{{},{(1|->3)},{(1|->4)}}",
+    )?;
+    check_two(
+        &rt,
+        alloc,
+        Two::PartialInj,
+        "{1,2}",
+        "{3}",
+        "{{},{(1|->3)},{(2|->3)}}",
+    )?;
+    check_two(
+        &rt,
+        alloc,
+        Two::PartialSurj,
+        "{1,2}",
+        "{3}",
+        "{{(1|->3)},{(1|->3),(2|->3)},{(2|->3)}}",
+    )?;
+    check_two(
+        &rt,
+        alloc,
+        Two::Total,
+        "{1}",
+        "{3,4}",
+        "{{(1|->3)},{(1|->4)}}",
+    )?;
     check_two(&rt, alloc, Two::Total, "{}", "{3}", "{{}}")?;
-    check_two(&rt, alloc, Two::TotalInj, "{1,2}", "{3,4}", "{{(1|->3),(2|->4)},{(1|->4),(2|->3)}}")?;
-    check_two(&rt, alloc, Two::TotalSurj, "{1,2}", "{3}", "{{(1|->3),(2|->3)}}")?;
-    check_two(&rt, alloc, Two::Bijections, "{1,2}", "{3,4}", "{{(1|->3),(2|->4)},{(1|->4),(2|->3)}}")
+    check_two(
+        &rt,
+        alloc,
+        Two::TotalInj,
+        "{1,2}",
+        "{3,4}",
+        "{{(1|->3),(2|->4)},{(1|->4),(2|->3)}}",
+    )?;
+    check_two(
+        &rt,
+        alloc,
+        Two::TotalSurj,
+        "{1,2}",
+        "{3}",
+        "{{(1|->3),(2|->3)}}",
+    )?;
+    check_two(
+        &rt,
+        alloc,
+        Two::Bijections,
+        "{1,2}",
+        "{3,4}",
+        "{{(1|->3),(2|->4)},{(1|->4),(2|->3)}}",
+    )
 }
 
 const SIXTEEN: &str = "{1,2,3,4,5,6,7,8,9,10,11,12,13,14,15,16}";
@@ -157,14 +219,27 @@ fn stops_at_the_limit(rt: HostRuntime) -> Result<(), Fail> {
     check_two(&rt, alloc, Two::Bijections, SIXTEEN, SIXTEEN, "too-large")
 }
 
-const SETS: [&str; 4] = ["{}", "{1}", "{1,2}", "{1,2,3}"];
+/// The set of the first n numbers.
+fn first_numbers(n: usize) -> &'static str {
+    match n {
+        0 => "{}",
+        1 => "{1}",
+        2 => "{1,2}",
+        _ => "{1,2,3}",
+    }
+}
 
 /// How many there are, by the numbers of elements of S down and of T across.
-fn check_counts(rt: &impl Abort, alloc: Global, op: Two, counts: [[usize; 4]; 4]) -> Result<(), Fail> {
+fn check_counts(
+    rt: &impl Abort,
+    alloc: Global,
+    op: Two,
+    counts: [[usize; 4]; 4],
+) -> Result<(), Fail> {
     for (m, row) in counts.iter().enumerate() {
         for (n, want) in row.iter().enumerate() {
-            let s = numbers(alloc, SETS[m])?;
-            let t = numbers(alloc, SETS[n])?;
+            let s = numbers(alloc, first_numbers(m))?;
+            let t = numbers(alloc, first_numbers(n))?;
             let found = apply_two(alloc, op, &s, &t)?;
             assert_eq!(rt; found.members().len(), *want);
         }
@@ -175,7 +250,7 @@ fn check_counts(rt: &impl Abort, alloc: Global, op: Two, counts: [[usize; 4]; 4]
 /// How many there are, by the number of elements of S.
 fn check_numbers(rt: &impl Abort, alloc: Global, op: One, counts: [usize; 4]) -> Result<(), Fail> {
     for (n, want) in counts.iter().enumerate() {
-        let s = numbers(alloc, SETS[n])?;
+        let s = numbers(alloc, first_numbers(n))?;
         let found = apply_one(alloc, op, &s)?;
         assert_eq!(rt; found.members().len(), *want);
     }
@@ -188,12 +263,52 @@ fn counts_as_combinatorics(rt: HostRuntime) -> Result<(), Fail> {
     check_numbers(&rt, alloc, One::Pow, [1, 2, 4, 8])?;
     check_numbers(&rt, alloc, One::Perm, [1, 1, 2, 6])?;
     check_numbers(&rt, alloc, One::Iseq, [1, 2, 5, 16])?;
-    check_counts(&rt, alloc, Two::Relations, [[1, 1, 1, 1], [1, 2, 4, 8], [1, 4, 16, 64], [1, 8, 64, 512]])?;
-    check_counts(&rt, alloc, Two::Partial, [[1, 1, 1, 1], [1, 2, 3, 4], [1, 4, 9, 16], [1, 8, 27, 64]])?;
-    check_counts(&rt, alloc, Two::PartialInj, [[1, 1, 1, 1], [1, 2, 3, 4], [1, 3, 7, 13], [1, 4, 13, 34]])?;
-    check_counts(&rt, alloc, Two::PartialSurj, [[1, 0, 0, 0], [1, 1, 0, 0], [1, 3, 2, 0], [1, 7, 12, 6]])?;
-    check_counts(&rt, alloc, Two::Total, [[1, 1, 1, 1], [0, 1, 2, 3], [0, 1, 4, 9], [0, 1, 8, 27]])?;
-    check_counts(&rt, alloc, Two::TotalInj, [[1, 1, 1, 1], [0, 1, 2, 3], [0, 0, 2, 6], [0, 0, 0, 6]])?;
-    check_counts(&rt, alloc, Two::TotalSurj, [[1, 0, 0, 0], [0, 1, 0, 0], [0, 1, 2, 0], [0, 1, 6, 6]])?;
-    check_counts(&rt, alloc, Two::Bijections, [[1, 0, 0, 0], [0, 1, 0, 0], [0, 0, 2, 0], [0, 0, 0, 6]])
+    check_counts(
+        &rt,
+        alloc,
+        Two::Relations,
+        [[1, 1, 1, 1], [1, 2, 4, 8], [1, 4, 16, 64], [1, 8, 64, 512]],
+    )?;
+    check_counts(
+        &rt,
+        alloc,
+        Two::Partial,
+        [[1, 1, 1, 1], [1, 2, 3, 4], [1, 4, 9, 16], [1, 8, 27, 64]],
+    )?;
+    check_counts(
+        &rt,
+        alloc,
+        Two::PartialInj,
+        [[1, 1, 1, 1], [1, 2, 3, 4], [1, 3, 7, 13], [1, 4, 13, 34]],
+    )?;
+    check_counts(
+        &rt,
+        alloc,
+        Two::PartialSurj,
+        [[1, 0, 0, 0], [1, 1, 0, 0], [1, 3, 2, 0], [1, 7, 12, 6]],
+    )?;
+    check_counts(
+        &rt,
+        alloc,
+        Two::Total,
+        [[1, 1, 1, 1], [0, 1, 2, 3], [0, 1, 4, 9], [0, 1, 8, 27]],
+    )?;
+    check_counts(
+        &rt,
+        alloc,
+        Two::TotalInj,
+        [[1, 1, 1, 1], [0, 1, 2, 3], [0, 0, 2, 6], [0, 0, 0, 6]],
+    )?;
+    check_counts(
+        &rt,
+        alloc,
+        Two::TotalSurj,
+        [[1, 0, 0, 0], [0, 1, 0, 0], [0, 1, 2, 0], [0, 1, 6, 6]],
+    )?;
+    check_counts(
+        &rt,
+        alloc,
+        Two::Bijections,
+        [[1, 0, 0, 0], [0, 1, 0, 0], [0, 0, 2, 0], [0, 0, 0, 6]],
+    )
 }
