@@ -1,6 +1,6 @@
 -- The laws of the set with given members, of kept values, and of what answers a row.
 use borrow.Author.Tests.{leb-true, leb-false}
-use Rattle.std.proofs.Common.{◌≡◌, ◌⊎◌, ◌↔◌, ◌≤◌, ◌<◌, Bool, true, false, ◌||◌, List, [], ◌∷◌, ◌++◌, Result, Ok, Err, arith, refl, sym, ap, ◌∙◌, subst, inl, inr}
+use Rattle.std.proofs.Common.{◌≡◌, ◌⊎◌, ◌↔◌, ◌≤◌, ◌<◌, Bool, true, false, ◌||◌, List, [], ◌∷◌, ◌++◌, Result, Ok, Err, arith, refl, sym, ap, ◌∙◌, subst, inl, inr, map, sum, ℕ, ◌+◌}
 use Rattle.std.specs.Prelude.{nat_le, if◌then◌else◌, IfOk, IsTrue}
 use Rattle.std.specs.List.{AllByRecursion}
 use Rattle.ascending.specs.Ascending.{In, IsAscending, insert, set_of}
@@ -18,7 +18,7 @@ use Rattle.b_values.specs.declared.values.Value.TheVariants.{Set, Pair}
 use Rattle.set_making.specs.declared.OpFault.{OpFault}
 use Rattle.set_making.specs.declared.OpFault.TheVariants.{Fault, Memory}
 use Rattle.set_making.specs.Making.{set_with, Answers, FaultOf, is_among}
-use Rattle.set_making.specs.Sums.{map_member_sum, part_sum}
+use Rattle.set_making.specs.Sums.{map_member_sum, map_append_sum, map_cons_sum, part_sum}
 
 -- ---- the limit
 
@@ -163,3 +163,36 @@ fault_of_more xs ys (Fault k) f a =
     let large : k ≡ TooLarge = limited_fault _ k a in
     subst (λ w. set_with ys ≡ Err w) (sym large) (set_with_too_large xs ys f (subst (λ w. set_with xs ≡ Err w) large a))
 fault_of_more xs ys Memory f a = tt
+
+-- ---- gathering
+
+-- a set's own members give it again
+pub set_of_twice : (xs : List Value) → set_of value_cmp (set_of value_cmp xs) ≡ set_of value_cmp xs
+set_of_twice xs = set_of_itself value_cmp value_total value_same (set_of value_cmp xs) (set_of_ascends value_cmp value_total value_same xs)
+
+pub set_with_set_of : (xs : List Value) → set_with (set_of value_cmp xs) ≡ set_with xs
+set_with_set_of xs = ap (λ ys. limited (Set ys)) (set_of_twice xs)
+
+-- what is gathered after one more
+pub gathered_more : (before after xs : List Value) (x : Value) → before ≡ set_of value_cmp xs → after ≡ insert value_cmp x before → after ≡ set_of value_cmp (xs ++ x ∷ [])
+gathered_more before after xs x e f = f ∙ ap (insert value_cmp x) e ∙ one_more xs x
+
+-- a fault of what is gathered is the fault of the whole
+pub gathered_fault : (before xs ys : List Value) (e : OpFault) → before ≡ set_of value_cmp xs → ((z : Value) → In z xs → In z ys) → FaultOf (set_with before) e → FaultOf (set_with ys) e
+gathered_fault before xs ys e same f a = fault_of_more xs ys e f (subst (λ row. FaultOf row e) (ap set_with same ∙ set_with_set_of xs) a)
+
+-- the set of what is gathered is the set of the list
+pub gathered_all : (whole xs : List Value) (r : Result Value OpFault) → whole ≡ set_of value_cmp xs → Answers (set_with whole) r → Answers (set_with xs) r
+gathered_all whole xs r same a = subst (λ row. Answers row r) (ap set_with same ∙ set_with_set_of xs) a
+
+-- a list of values with too many nodes for a set's members
+pub too_many : (xs : List Value) → IsAscending value_cmp xs → 999999 < sum (map node_count xs) → set_with xs ≡ Err TooLarge
+too_many xs a h = set_in_order_with xs a ∙ limited_refuses (Set xs) (omega (arith, count-Set xs))
+
+-- members in order that are within the limit are answered
+pub few_enough : (xs ys : List Value) (left : ℕ) → IsAscending value_cmp xs → sum (map node_count ys) + left ≡ 999999 → ys ≡ xs → set_with xs ≡ Ok (Set ys)
+few_enough xs ys left a h e = ap set_with (sym e) ∙ set_in_order_with ys (subst (IsAscending value_cmp) (sym e) a) ∙ limited_fits (Set ys) (omega (arith, count-Set ys))
+
+-- members in order with one more that passes the limit are refused
+pub one_too_many : (xs ys : List Value) (v : Value) (left : ℕ) → ys ≡ xs → sum (map node_count ys) + left ≡ 999999 → left < node_count v → IsAscending value_cmp (xs ++ v ∷ []) → set_with (xs ++ v ∷ []) ≡ Err TooLarge
+one_too_many xs ys v left e h l a = too_many (xs ++ v ∷ []) a (omega (arith, map_append_sum node_count xs (v ∷ []), map_cons_sum node_count v [], ap (λ zs. sum (map node_count zs)) e))

@@ -9,9 +9,13 @@ ghost use Rattle.b_values.specs.declared.values.Value.TheVariants.{Pair};
 ghost use Rattle.set_making.specs.Making as spec;
 ghost use Rattle.set_making.specs.Making.{Answers};
 
+mod gathering;
+mod growing;
 mod merging;
 
 use b_values::{FaultKind, Value, is_member, limited, make_set};
+pub use gathering::Gathering;
+pub use growing::Growing;
 pub use merging::merge;
 use shared::Shared;
 use sqlite_items::Items;
