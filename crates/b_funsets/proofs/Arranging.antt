@@ -1,5 +1,5 @@
 -- One-to-one sequences, gathered length by length.
-use Rattle.std.proofs.Common.{◌≡◌, ◌⊎◌, ◌↔◌, ℕ, zero, suc, ◌+◌, ◌≤◌, ◌<◌, Bool, true, false, List, [], ◌∷◌, ◌++◌, map, length, arith, refl, sym, ap, ap₂, ◌∙◌, subst, inl, inr, Result, Ok, Err}
+use Rattle.std.proofs.Common.{◌≡◌, ◌⊎◌, ◌↔◌, ℕ, zero, suc, ◌+◌, ◌≤◌, ◌<◌, true, false, List, [], ◌++◌, map, length, arith, sym, ap, ◌∙◌, subst, inl, inr, Result, Err}
 use Rattle.std.specs.Prelude.{◌&&◌, filter, reverse, IfOk}
 use Rattle.std.specs.List.{AllByRecursion}
 use Rattle.std.proofs.Math.Nat.{eq-or-lt_of_le}
@@ -7,7 +7,6 @@ use Rattle.ascending.specs.Ascending.{In, IsAscending}
 use Rattle.ascending.specs.Members.{all_in, all_from, in_append}
 use Rattle.b_values.specs.Values.{elements, value_cmp, IsValue, IsKept}
 use Rattle.b_values.specs.ValueLaws.{elements-Set, elements_ascend, elements_are_values}
-use Rattle.b_values.specs.declared.values.FaultKind.{FaultKind}
 use Rattle.b_values.specs.declared.values.FaultKind.TheVariants.{IllDefined, Overflow, TooLarge}
 use Rattle.b_values.specs.declared.values.Value.{Value}
 use Rattle.b_values.specs.declared.values.Value.TheVariants.{Set}
@@ -15,11 +14,10 @@ use Rattle.set_making.specs.Making.{set_with, Answers, FaultOf}
 use Rattle.set_making.specs.MakingLaws.{set_with_too_large, answers_same, answers_law, answers_kept}
 use Rattle.set_making.specs.declared.OpFault.{OpFault}
 use Rattle.set_making.specs.declared.OpFault.TheVariants.{Fault, Memory}
-use Rattle.b_funsets.specs.declared.levels.Row.{Row}
 use Rattle.b_funsets.specs.Families.{couples, sublists}
 use Rattle.b_funsets.specs.Arrows.{is_function, is_total, is_one_to_one, IsTotalInjection}
 use Rattle.b_funsets.specs.Arrangements.{places, injections, injections_below, IsArrangement}
-use Rattle.b_funsets.specs.Levels.{read, level, is_such, IsSuch, Gives, GrowsLarge}
+use Rattle.b_funsets.specs.Levels.{read, level, is_such, Gives, GrowsLarge}
 use Rattle.b_funsets.proofs.SublistLaws.{in_map, map_from}
 use Rattle.b_funsets.proofs.SubsetSizes.{map_append_sets}
 use Rattle.b_funsets.proofs.FamilyLaws.{subsets_are_values}

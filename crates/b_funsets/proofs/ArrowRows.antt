@@ -1,7 +1,6 @@
 -- The set of the rows of the last level is the set of the functions that are asked for.
-use Rattle.std.proofs.Common.{◌≡◌, ◌⊎◌, ◌↔◌, ℕ, ◌+◌, ◌≤◌, ◌<◌, Bool, true, false, List, [], ◌∷◌, ◌++◌, map, length, sum, drop, arith, refl, sym, ap, ap₂, ◌∙◌, subst, inl, inr, Result, Ok, Err}
+use Rattle.std.proofs.Common.{◌≡◌, ◌↔◌, ◌≤◌, ◌<◌, Bool, true, false, List, [], ◌∷◌, map, length, drop, arith, refl, sym, ap, ap₂, ◌∙◌, subst, inl, inr, Result, Err}
 use Rattle.std.specs.Prelude.{◌&&◌, ◌||◌, not, reverse, filter, IfOk, if◌then◌else◌}
-use Rattle.std.specs.List.{AllByRecursion}
 use Rattle.ascending.specs.Ascending.{In, IsAscending, set_of}
 use Rattle.ascending.specs.Members.{all_in, all_from}
 use Rattle.b_values.specs.OrderLaws.{value_total}
@@ -9,7 +8,6 @@ use Rattle.b_values.specs.SameLaws.{value_decides}
 use Rattle.b_values.specs.SizeLaws.{count-Set}
 use Rattle.b_values.specs.Values.{elements, node_count, same_value, value_cmp, IsValue, IsKept}
 use Rattle.b_values.specs.ValueLaws.{elements-Set, elements_ascend, elements_are_values}
-use Rattle.b_values.specs.declared.values.FaultKind.{FaultKind}
 use Rattle.b_values.specs.declared.values.FaultKind.TheVariants.{IllDefined, Overflow, TooLarge}
 use Rattle.b_values.specs.declared.values.Value.{Value}
 use Rattle.b_values.specs.declared.values.Value.TheVariants.{Pair, Set}
@@ -21,15 +19,15 @@ use Rattle.set_making.specs.declared.OpFault.TheVariants.{Fault, Memory}
 use Rattle.b_funsets.specs.declared.levels.Arrow.{Arrow}
 use Rattle.b_funsets.specs.declared.levels.Row.{Row}
 use Rattle.b_funsets.specs.Families.{couples, sublists, IsRelation}
-use Rattle.b_funsets.specs.Arrows.{first, second, is_function, is_one_to_one, is_total, is_onto, relations_that, IsFunctional, IsOneToOne, IsTotal, IsOnto, HasImage, IsImage}
+use Rattle.b_funsets.specs.Arrows.{first, second, is_one_to_one, is_total, is_onto, relations_that, IsFunctional, IsOneToOne, IsTotal, IsOnto}
 use Rattle.b_funsets.specs.Levels.{read, hits, counts, level, weight, is_such, IsSuch, Gives, GrowsLarge}
 use Rattle.b_funsets.proofs.SublistLaws.{in_map, map_from, sublist_within, sublist_ascends, is_sublist}
 use Rattle.b_funsets.proofs.SubsetSizes.{total}
 use Rattle.b_funsets.proofs.FamilyLaws.{subsets_are_values}
-use Rattle.b_funsets.proofs.CoupleLaws.{IsOf, in_couples, couple_from, couples_ascend, couples_are_values, relation_of_sublist, sublist_of_relation}
-use Rattle.b_funsets.proofs.ArrowTests.{and_parts, both_true, implies, implied, Found, any_true, true_any, in_filter, in_reverse, first-Pair, second-Pair, HasFirst, HasSecond, OneImage, OneArgument, AllFirst, AllSecond, function_means, one_to_one_means, total_means, onto_means, filter_same}
-use Rattle.b_funsets.proofs.Counting.{free, left_of, none_left, IsReady}
-use Rattle.b_funsets.proofs.LevelRows.{IsPart, IsPartRow, IsWanted, Reached, rows_are_parts, all_there, left_is}
+use Rattle.b_funsets.proofs.CoupleLaws.{in_couples, couple_from, couples_ascend, couples_are_values, relation_of_sublist, sublist_of_relation}
+use Rattle.b_funsets.proofs.ArrowTests.{and_parts, both_true, implies, implied, any_true, true_any, in_filter, in_reverse, first-Pair, second-Pair, OneImage, OneArgument, AllFirst, AllSecond, function_means, one_to_one_means, total_means, onto_means}
+use Rattle.b_funsets.proofs.Counting.{free, none_left}
+use Rattle.b_funsets.proofs.LevelRows.{Reached, rows_are_parts, all_there, left_is}
 use Rattle.b_funsets.proofs.LevelWeights.{levels_grow}
 use Rattle.b_funsets.proofs.LevelApart.{level_apart, sets_apart, set_total}
 

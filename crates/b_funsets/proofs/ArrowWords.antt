@@ -1,6 +1,6 @@
 -- The seven arrows: their tests, and what their members are in words.
-use Rattle.std.proofs.Common.{◌≡◌, ◌↔◌, Bool, true, false, List, map, refl, sym, ap, ◌∙◌, subst, Result, Ok, Err}
-use Rattle.std.specs.Prelude.{◌&&◌, filter, IfOk}
+use Rattle.std.proofs.Common.{◌≡◌, ◌↔◌, Bool, true, false, List, map, refl, subst, Result, Ok, Err}
+use Rattle.std.specs.Prelude.{◌&&◌, IfOk}
 use Rattle.ascending.specs.Ascending.{In}
 use Rattle.b_values.specs.Values.{elements}
 use Rattle.b_values.specs.declared.values.Value.{Value}

@@ -1,8 +1,6 @@
 -- The couples of two ascending lists: they ascend, which they are, and how many.
-use Rattle.std.proofs.Common.{◌≡◌, ◌⊎◌, ◌↔◌, ◌≤◌, ℕ, ◌+◌, ◌*◌, List, [], ◌∷◌, ◌++◌, map, length, arith, refl, sym, ap, ap₂, ◌∙◌, subst, inl, inr, length-append, Result}
-use Rattle.std.specs.Prelude.{IfOk}
+use Rattle.std.proofs.Common.{◌≡◌, ◌↔◌, ◌*◌, List, [], ◌∷◌, map, length, arith, refl, sym, ap, ◌∙◌, subst, inl, inr, length-append}
 use Rattle.std.proofs.lemmas.List.{length-map}
-use Rattle.std.specs.declared.cmp.Ordering.{Ordering}
 use Rattle.std.specs.declared.cmp.Ordering.TheVariants.{Less}
 use Rattle.std.specs.Ordering.{ordering_then}
 use Rattle.std.specs.Cmp.{tied_itself}
@@ -16,8 +14,8 @@ use Rattle.b_values.specs.ValueLaws.{is_couple, elements-Set}
 use Rattle.b_values.specs.declared.values.Value.{Value, out-Value}
 use Rattle.b_values.specs.declared.values.Value.TheOpen.{Value-F}
 use Rattle.b_values.specs.declared.values.Value.TheVariants.{Pair, Set, outs-Pair}
-use Rattle.b_funsets.specs.Families.{couples, sublists, IsCouple, IsRelation}
-use Rattle.b_funsets.proofs.SublistLaws.{in_map, map_from, ComesFrom, sublist_within, sublist_ascends, is_sublist}
+use Rattle.b_funsets.specs.Families.{couples, sublists, IsRelation}
+use Rattle.b_funsets.proofs.SublistLaws.{in_map, map_from, sublist_within, sublist_ascends, is_sublist}
 
 -- couples are compared by their first and then their second parts
 pub cmp-Pair : (a b c d : Value) → value_cmp (Pair a b) (Pair c d) ≡ ordering_then (value_cmp a c) (value_cmp b d)

@@ -1,8 +1,5 @@
 -- Sets of subsets: their order, their members, and that they are values.
-use Rattle.std.proofs.Common.{◌≡◌, ◌⊎◌, ◌↔◌, ℕ, List, [], ◌∷◌, ◌++◌, map, refl, sym, ap, ◌∙◌, subst, inl, inr, Result}
-use Rattle.std.specs.Prelude.{IfOk}
-use Rattle.std.specs.declared.cmp.Ordering.{Ordering}
-use Rattle.std.specs.declared.cmp.Ordering.TheVariants.{Less}
+use Rattle.std.proofs.Common.{◌≡◌, ◌↔◌, List, [], ◌∷◌, map, refl, sym, ap, ◌∙◌, subst, inl, inr}
 use Rattle.std.specs.Cmp.Lexicographic.{slice_cmp}
 use Rattle.std.specs.List.{AllByRecursion}
 use Rattle.ascending.specs.Ascending.{In, IsAscending}
@@ -14,11 +11,8 @@ use Rattle.b_values.specs.ValueLaws.{elements-Set, is_set}
 use Rattle.b_values.specs.declared.values.Value.{Value, out-Value}
 use Rattle.b_values.specs.declared.values.Value.TheOpen.{Value-F}
 use Rattle.b_values.specs.declared.values.Value.TheVariants.{Set, outs-Set}
-use Rattle.set_making.specs.Making.{set_with, Answers}
-use Rattle.set_making.specs.MakingLaws.{answers_law, answers_kept}
-use Rattle.set_making.specs.declared.OpFault.{OpFault}
-use Rattle.b_funsets.specs.Families.{nonempty_sublists, sublists, IsSubset, IsNonemptySubset, pow_row, pow1_row}
-use Rattle.b_funsets.proofs.SublistLaws.{in_map, map_from, ComesFrom, sublist_within, sublist_ascends, is_sublist, sublists_ascend, first_is_member}
+use Rattle.b_funsets.specs.Families.{nonempty_sublists, sublists, IsSubset, IsNonemptySubset}
+use Rattle.b_funsets.proofs.SublistLaws.{in_map, map_from, sublist_within, sublist_ascends, is_sublist, sublists_ascend, first_is_member}
 
 -- sets are compared as lists
 pub cmp-Set : (xs ys : List Value) → value_cmp (Set xs) (Set ys) ≡ slice_cmp value_cmp xs ys

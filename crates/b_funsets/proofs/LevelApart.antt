@@ -1,5 +1,5 @@
 -- No function stands twice in a level, so the set of them has the nodes of the rows.
-use Rattle.std.proofs.Common.{◌≡◌, ◌⊎◌, ℕ, ◌+◌, ◌≤◌, ◌<◌, Bool, true, false, List, [], ◌∷◌, ◌++◌, map, length, sum, arith, refl, sym, ap, ◌∙◌, subst, inl, inr}
+use Rattle.std.proofs.Common.{◌≡◌, ◌⊎◌, ℕ, ◌+◌, Bool, true, false, List, [], ◌∷◌, ◌++◌, map, length, arith, refl, sym, ap, ◌∙◌, subst, inl, inr}
 use Rattle.std.specs.Prelude.{nat_lt, reverse, filter, if◌then◌else◌}
 use Rattle.std.specs.List.{flat_map}
 use Rattle.std.specs.declared.cmp.Ordering.{Ordering}
@@ -16,7 +16,7 @@ use Rattle.b_values.specs.declared.values.Value.TheVariants.{Pair, Set}
 use Rattle.set_making.specs.Sums.{map_cons_sum}
 use Rattle.b_funsets.specs.declared.levels.Arrow.{Arrow}
 use Rattle.b_funsets.specs.declared.levels.Row.{Row}
-use Rattle.b_funsets.specs.Levels.{read, viable, counts, takes, skips, extended, kids, level, weight}
+use Rattle.b_funsets.specs.Levels.{read, viable, counts, takes, skips, extended, children, level}
 use Rattle.b_funsets.proofs.SublistLaws.{map_from}
 use Rattle.b_funsets.proofs.SubsetSizes.{total}
 use Rattle.b_funsets.proofs.CoupleLaws.{row_ascends, IsOf}
@@ -80,21 +80,21 @@ longer_is_not : (c : Value) (r : List Value) → c ∷ r ≡ r → ⊥
 longer_is_not c r e = let l = ap length e in omega arith
 
 module _ (a : Arrow) (t : List Value) (rising : IsAscending value_cmp t) where
-  -- a kid is the row, or the row with a couple of x
-  kid_cases : (k : ℕ) (x : Value) (row kid : Row) → In kid (kids a k (nat_lt 0 (length t)) (map (λ y. Pair x y) t) row) → (read kid ≡ read row) ⊎ ((y : Value) × (read kid ≡ Pair x y ∷ read row))
-  kid_cases k x row kid m = elim ((in_append kid (map (extended row) (filter (takes a k (nat_lt 0 (length t)) row) (map (λ y. Pair x y) t))) (if skips a k (nat_lt 0 (length t)) row then row ∷ [] else [])).0 m) [
-    | inl n ↦ (let c = map_from (extended row) kid (filter (takes a k (nat_lt 0 (length t)) row) (map (λ y. Pair x y) t)) n in
+  -- a child is the row, or the row with a couple of x
+  child_cases : (k : ℕ) (x : Value) (row child : Row) → In child (children a k (nat_lt 0 (length t)) (map (λ y. Pair x y) t) row) → (read child ≡ read row) ⊎ ((y : Value) × (read child ≡ Pair x y ∷ read row))
+  child_cases k x row child m = elim ((in_append child (map (extended row) (filter (takes a k (nat_lt 0 (length t)) row) (map (λ y. Pair x y) t))) (if skips a k (nat_lt 0 (length t)) row then row ∷ [] else [])).0 m) [
+    | inl n ↦ (let c = map_from (extended row) child (filter (takes a k (nat_lt 0 (length t)) row) (map (λ y. Pair x y) t)) n in
         let d = map_from (λ y. Pair x y) c.source t ((in_filter (takes a k (nat_lt 0 (length t)) row) c.source (map (λ y. Pair x y) t)).0 c.member).0 in
         inr (d.source, ap read c.is ∙ read_extended row c.source ∙ ap (λ w. w ∷ read row) d.is))
     | inr n ↦ inl (same (skips a k (nat_lt 0 (length t)) row) n)
   ]
     where
-      same : (b : Bool) → In kid (if b then row ∷ [] else []) → read kid ≡ read row
+      same : (b : Bool) → In child (if b then row ∷ [] else []) → read child ≡ read row
       same true n = elim n [ inl e ↦ ap read e | inr e ↦ absurd e ]
       same false n = absurd n
 
-  kids_apart : (k : ℕ) (x : Value) (row : Row) → Apart read (kids a k (nat_lt 0 (length t)) (map (λ y. Pair x y) t) row)
-  kids_apart k x row = apart_append read (map (extended row) (filter (takes a k (nat_lt 0 (length t)) row) (map (λ y. Pair x y) t))) (if skips a k (nat_lt 0 (length t)) row then row ∷ [] else [])
+  children_apart : (k : ℕ) (x : Value) (row : Row) → Apart read (children a k (nat_lt 0 (length t)) (map (λ y. Pair x y) t) row)
+  children_apart k x row = apart_append read (map (extended row) (filter (takes a k (nat_lt 0 (length t)) row) (map (λ y. Pair x y) t))) (if skips a k (nat_lt 0 (length t)) row then row ∷ [] else [])
       (apart_map (λ (c : Value). c) read (extended row)
       (λ c d e. let g : c ∷ read row ≡ d ∷ read row = sym (read_extended row c) ∙ e ∙ read_extended row d in cc)
       (filter (takes a k (nat_lt 0 (length t)) row) (map (λ y. Pair x y) t))
@@ -116,13 +116,13 @@ module _ (a : Arrow) (t : List Value) (rising : IsAscending value_cmp t) where
 
   -- rows that give one function come from one row
   one_parent : (s : List Value) (k : ℕ) (x : Value) (v w y z : Row) → IsAscending value_cmp (x ∷ s) → IsPartRow a s t (k + 1) v → IsPartRow a s t (k + 1) w
-      → In y (kids a k (nat_lt 0 (length t)) (map (λ y. Pair x y) t) v) → In z (kids a k (nat_lt 0 (length t)) (map (λ y. Pair x y) t) w) → read y ≡ read z → read v ≡ read w
-  one_parent s k x v w y z up h j m n e = elim (kid_cases k x v y m) [
-    | inl f ↦ elim (kid_cases k x w z n) [
+      → In y (children a k (nat_lt 0 (length t)) (map (λ y. Pair x y) t) v) → In z (children a k (nat_lt 0 (length t)) (map (λ y. Pair x y) t) w) → read y ≡ read z → read v ≡ read w
+  one_parent s k x v w y z up h j m n e = elim (child_cases k x v y m) [
+    | inl f ↦ elim (child_cases k x w z n) [
       | inl g ↦ sym f ∙ e ∙ g
       | inr g ↦ absurd (clash (read v) h.within g.0 (read w) (sym f ∙ e ∙ g.1))
     ]
-    | inr f ↦ elim (kid_cases k x w z n) [
+    | inr f ↦ elim (child_cases k x w z n) [
       | inl g ↦ absurd (clash (read w) j.within f.0 (read v) (sym g ∙ sym e ∙ f.1))
       | inr g ↦ (let both : Pair x f.0 ∷ read v ≡ Pair x g.0 ∷ read w = sym f.1 ∙ e ∙ g.1 in cc)
     ]
@@ -143,9 +143,9 @@ module _ (a : Arrow) (t : List Value) (rising : IsAscending value_cmp t) where
   level_apart (x ∷ s) k up =
       let tail = ascending_tail value_cmp x s up in
       let part : (v : Row) → In v (reverse (level a t (k + 1) s)) → IsPartRow a s t (k + 1) v = λ v m. rows_are_parts a t rising s (k + 1) v tail ((in_reverse v (level a t (k + 1) s)).0 m) in
-      apart_flat read read (kids a k (nat_lt 0 (length t)) (map (λ y. Pair x y) t)) (reverse (level a t (k + 1) s))
+      apart_flat read read (children a k (nat_lt 0 (length t)) (map (λ y. Pair x y) t)) (reverse (level a t (k + 1) s))
       (apart_reverse read (level a t (k + 1) s) (level_apart s (k + 1) tail))
-      (λ v m. kids_apart k x v)
+      (λ v m. children_apart k x v)
       (λ v w m n y z l o e. one_parent s k x v w y z up (part v m) (part w n) l o e)
 
 -- ---- the nodes of the set

@@ -1,10 +1,9 @@
 -- The rows of a level are the functions over its elements that can be completed: each is one, and each one is there.
-use Rattle.std.proofs.Common.{◌≡◌, ◌⊎◌, ◌↔◌, ℕ, ◌+◌, ◌-◌, ◌≤◌, ◌<◌, Bool, true, false, List, [], ◌∷◌, ◌++◌, map, length, arith, refl, sym, ap, ap₂, ◌∙◌, subst, inl, inr}
-use Rattle.std.specs.Prelude.{◌&&◌, ◌||◌, not, nat_le, nat_lt, ◌==◌, reverse, filter, if◌then◌else◌}
-use Rattle.std.specs.List.{list_any, flat_map}
+use Rattle.std.proofs.Common.{◌≡◌, ◌↔◌, ℕ, ◌+◌, ◌≤◌, Bool, true, false, List, [], ◌∷◌, map, length, arith, refl, sym, ap, ◌∙◌, subst, inl, inr}
+use Rattle.std.specs.Prelude.{◌&&◌, ◌||◌, not, nat_lt, reverse, filter, if◌then◌else◌}
+use Rattle.std.specs.List.{flat_map}
 use Rattle.std.proofs.lemmas.List.{reverse-append}
 use Rattle.std.proofs.lemmas.Bool.{lt-ltb}
-use Rattle.std.specs.declared.cmp.Ordering.{Ordering}
 use Rattle.std.specs.declared.cmp.Ordering.TheVariants.{Less}
 use Rattle.ascending.specs.Ascending.{In, IsAscending}
 use Rattle.ascending.specs.Members.{all_in, all_from, in_append}
@@ -18,11 +17,11 @@ use Rattle.b_values.specs.declared.values.Value.TheVariants.{Pair, Set}
 use Rattle.b_funsets.specs.declared.levels.Arrow.{Arrow}
 use Rattle.b_funsets.specs.declared.levels.Row.{Row}
 use Rattle.b_funsets.specs.Arrows.{first, second}
-use Rattle.b_funsets.specs.Levels.{read, hits, counts, viable, left_after, takes, skips, extended, kids, start, level}
+use Rattle.b_funsets.specs.Levels.{read, hits, counts, viable, left_after, takes, skips, extended, children, level}
 use Rattle.b_funsets.proofs.SublistLaws.{in_map, map_from, ComesFrom}
 use Rattle.b_funsets.proofs.SubsetSizes.{count_with_first}
 use Rattle.b_funsets.proofs.CoupleLaws.{IsOf, lower_left}
-use Rattle.b_funsets.proofs.ArrowTests.{and_parts, both_true, implies, implied, not_true, either_way, Found, any_true, true_any, in_filter, in_reverse, first-Pair, second-Pair, HasFirst, OneImage, OneArgument, AllFirst}
+use Rattle.b_funsets.proofs.ArrowTests.{and_parts, both_true, implies, implied, not_true, either_way, any_true, true_any, in_filter, in_reverse, first-Pair, second-Pair, OneImage, OneArgument, AllFirst}
 use Rattle.b_funsets.proofs.Counting.{free, left_of, hits_reverse, left_next, free_fresh, IsReady, ready_means}
 
 -- ---- lists of lists
@@ -168,11 +167,11 @@ module _ (a : Arrow) (t : List Value) (rising : IsAscending value_cmp t) where
     weighed = sym (count-Set []);
   }
 
-  -- what the row of a kid is
-  kid_is_part : (s : List Value) (k : ℕ) (x : Value) (row kid : Row) → IsAscending value_cmp (x ∷ s) → IsPartRow a s t (k + 1) row
-      → In kid (kids a k (nat_lt 0 (length t)) (map (λ y. Pair x y) t) row) → IsPartRow a (x ∷ s) t k kid
-  kid_is_part s k x row kid up h m = elim ((in_append kid (map (extended row) (filter (takes a k (nat_lt 0 (length t)) row) (map (λ y. Pair x y) t))) (if skips a k (nat_lt 0 (length t)) row then row ∷ [] else [])).0 m) [
-    | inl n ↦ longer (map_from (extended row) kid (filter (takes a k (nat_lt 0 (length t)) row) (map (λ y. Pair x y) t)) n)
+  -- what the row of a child is
+  child_is_part : (s : List Value) (k : ℕ) (x : Value) (row child : Row) → IsAscending value_cmp (x ∷ s) → IsPartRow a s t (k + 1) row
+      → In child (children a k (nat_lt 0 (length t)) (map (λ y. Pair x y) t) row) → IsPartRow a (x ∷ s) t k child
+  child_is_part s k x row child up h m = elim ((in_append child (map (extended row) (filter (takes a k (nat_lt 0 (length t)) row) (map (λ y. Pair x y) t))) (if skips a k (nat_lt 0 (length t)) row then row ∷ [] else [])).0 m) [
+    | inl n ↦ longer (map_from (extended row) child (filter (takes a k (nat_lt 0 (length t)) row) (map (λ y. Pair x y) t)) n)
     | inr n ↦ same (skips a k (nat_lt 0 (length t)) row) refl n
   ]
     where
@@ -184,14 +183,14 @@ module _ (a : Arrow) (t : List Value) (rising : IsAscending value_cmp t) where
           subst (λ b. IsPart a (x ∷ s) t k (read (extended row (Pair x y))) (left_after row.left b) (row.nodes + node_count (Pair x y))) turned
           (subst (λ r. IsPart a (x ∷ s) t k r (left_after row.left (hits (read row) (second (Pair x y)))) (row.nodes + node_count (Pair x y))) (sym (read_extended row (Pair x y))) part)
 
-      longer : ComesFrom (extended row) (filter (takes a k (nat_lt 0 (length t)) row) (map (λ y. Pair x y) t)) kid → IsPartRow a (x ∷ s) t k kid
+      longer : ComesFrom (extended row) (filter (takes a k (nat_lt 0 (length t)) row) (map (λ y. Pair x y) t)) child → IsPartRow a (x ∷ s) t k child
       longer c =
           let f = (in_filter (takes a k (nat_lt 0 (length t)) row) c.source (map (λ y. Pair x y) t)).0 c.member in
           let d = map_from (λ y. Pair x y) c.source t f.0 in
           subst (IsPartRow a (x ∷ s) t k) (sym (c.is ∙ ap (extended row) d.is))
           (longer_by d.source d.member (subst (λ w. takes a k (nat_lt 0 (length t)) row w ≡ true) d.is f.1))
 
-      same : (b : Bool) → skips a k (nat_lt 0 (length t)) row ≡ b → In kid (if b then row ∷ [] else []) → IsPartRow a (x ∷ s) t k kid
+      same : (b : Bool) → skips a k (nat_lt 0 (length t)) row ≡ b → In child (if b then row ∷ [] else []) → IsPartRow a (x ∷ s) t k child
       same false e n = absurd n
       same true e n = elim n [
         | inl f ↦ (let p = and_parts _ _ e in
@@ -208,8 +207,8 @@ module _ (a : Arrow) (t : List Value) (rising : IsAscending value_cmp t) where
       go false e n = absurd n
       go true e n = elim n [ inl f ↦ subst (IsPartRow a [] t k) (sym f) (part_start k e) | inr f ↦ absurd f ]
   rows_are_parts (x ∷ s) k row up m =
-      let c = flat_map_from (kids a k (nat_lt 0 (length t)) (map (λ y. Pair x y) t)) row (reverse (level a t (k + 1) s)) m in
-      kid_is_part s k x c.source row up
+      let c = flat_map_from (children a k (nat_lt 0 (length t)) (map (λ y. Pair x y) t)) row (reverse (level a t (k + 1) s)) m in
+      child_is_part s k x c.source row up
       (rows_are_parts s (k + 1) c.source (ascending_tail value_cmp x s up) ((in_reverse c.source (level a t (k + 1) s)).0 c.member)) c.part
 
   -- ---- each part is there
@@ -258,7 +257,7 @@ module _ (a : Arrow) (t : List Value) (rising : IsAscending value_cmp t) where
           let may : skips a k (nat_lt 0 (length t)) c.row ≡ true = both_true (not a.total) (viable a k c.row.left (nat_lt 0 (length t))) (ap not o) ((ready_means a k c.row.left (nat_lt 0 (length t))).1 ready) in
           record {
             row = c.row;
-            member = in_flat_map (kids a k (nat_lt 0 (length t)) (map (λ y. Pair x y) t)) c.row (reverse (level a t (k + 1) s)) c.row ((in_reverse c.row (level a t (k + 1) s)).1 c.member)
+            member = in_flat_map (children a k (nat_lt 0 (length t)) (map (λ y. Pair x y) t)) c.row (reverse (level a t (k + 1) s)) c.row ((in_reverse c.row (level a t (k + 1) s)).1 c.member)
                 ((in_append c.row (map (extended c.row) (filter (takes a k (nat_lt 0 (length t)) c.row) (map (λ y. Pair x y) t))) (if skips a k (nat_lt 0 (length t)) c.row then c.row ∷ [] else [])).1
                 (inr (subst (λ b. In c.row (if b then c.row ∷ [] else [])) (sym may) (inl refl))));
             is = c.is;
@@ -275,8 +274,8 @@ module _ (a : Arrow) (t : List Value) (rising : IsAscending value_cmp t) where
   pub left_is : (r : List Value) → counts a ≡ true → left_of a t r ≡ length (free t r)
   left_is r e = ap (λ b. if b then length (free t r) else 0) e
 
-  pub kid_there : (k : ℕ) (x y : Value) (row : Row) → In y t → takes a k (nat_lt 0 (length t)) row (Pair x y) ≡ true → In (extended row (Pair x y)) (kids a k (nat_lt 0 (length t)) (map (λ y. Pair x y) t) row)
-  kid_there k x y row m may = (in_append (extended row (Pair x y)) (map (extended row) (filter (takes a k (nat_lt 0 (length t)) row) (map (λ y. Pair x y) t))) (if skips a k (nat_lt 0 (length t)) row then row ∷ [] else [])).1
+  pub child_there : (k : ℕ) (x y : Value) (row : Row) → In y t → takes a k (nat_lt 0 (length t)) row (Pair x y) ≡ true → In (extended row (Pair x y)) (children a k (nat_lt 0 (length t)) (map (λ y. Pair x y) t) row)
+  child_there k x y row m may = (in_append (extended row (Pair x y)) (map (extended row) (filter (takes a k (nat_lt 0 (length t)) row) (map (λ y. Pair x y) t))) (if skips a k (nat_lt 0 (length t)) row then row ∷ [] else [])).1
       (inl (in_map (extended row) (Pair x y) (filter (takes a k (nat_lt 0 (length t)) row) (map (λ y. Pair x y) t))
       ((in_filter (takes a k (nat_lt 0 (length t)) row) (Pair x y) (map (λ y. Pair x y) t)).1 (in_map (λ y. Pair x y) y t m, may))))
 
@@ -354,8 +353,8 @@ module _ (a : Arrow) (t : List Value) (rising : IsAscending value_cmp t) where
           let may = (takes_means a k (nat_lt 0 (length t)) c.row (Pair x y)).1 here in
           record {
             row = extended c.row (Pair x y);
-            member = in_flat_map (kids a k (nat_lt 0 (length t)) (map (λ y. Pair x y) t)) (extended c.row (Pair x y)) (reverse (level a t (k + 1) s)) c.row ((in_reverse c.row (level a t (k + 1) s)).1 c.member)
-                (kid_there k x y c.row m may);
+            member = in_flat_map (children a k (nat_lt 0 (length t)) (map (λ y. Pair x y) t)) (extended c.row (Pair x y)) (reverse (level a t (k + 1) s)) c.row ((in_reverse c.row (level a t (k + 1) s)).1 c.member)
+                (child_there k x y c.row m may);
             is = read_extended c.row (Pair x y) ∙ ap (λ r. Pair x y ∷ r) c.is;
           }
 

@@ -1,10 +1,8 @@
 -- The steps of the loops over rows, where one of them refuses.
-use Rattle.std.proofs.Common.{◌≡◌, ℕ, zero, suc, ◌+◌, ◌<◌, ◌≤◌, List, [], ◌∷◌, ◌++◌, map, length, get_or, take, drop, drop-cons, arith, refl, sym, ap, ap₂, ◌∙◌, subst, Result, Ok, Err}
+use Rattle.std.proofs.Common.{◌≡◌, ℕ, zero, suc, ◌+◌, ◌<◌, ◌≤◌, List, [], ◌∷◌, ◌++◌, map, length, get_or, take, drop, drop-cons, arith, sym, ap, ap₂, ◌∙◌, subst, Err}
 use Rattle.std.specs.Prelude.{reverse, nat_lt}
 use Rattle.std.specs.List.{flat_map}
 use Rattle.std.proofs.lemmas.List.{reverse-append}
-use Rattle.b_values.specs.Values.{node_count}
-use Rattle.b_values.specs.declared.values.FaultKind.{FaultKind}
 use Rattle.b_values.specs.declared.values.FaultKind.TheVariants.{IllDefined, Overflow, TooLarge}
 use Rattle.b_values.specs.declared.values.Value.{Value}
 use Rattle.b_values.specs.declared.values.Value.TheVariants.{Pair}
@@ -13,7 +11,7 @@ use Rattle.set_making.specs.declared.OpFault.{OpFault}
 use Rattle.set_making.specs.declared.OpFault.TheVariants.{Fault, Memory}
 use Rattle.b_funsets.specs.declared.levels.Arrow.{Arrow}
 use Rattle.b_funsets.specs.declared.levels.Row.{Row}
-use Rattle.b_funsets.specs.Levels.{extended, kids, level, weight, Gives, GrowsLarge, Spends}
+use Rattle.b_funsets.specs.Levels.{children, level, weight, Gives, GrowsLarge, Spends}
 
 -- what a part refuses, the whole refuses
 pub spends_err : (e : OpFault) (part rest whole budget spent : ℕ) → spent + rest ≡ budget → spent + part ≤ whole → Spends part rest (Err e) → Spends whole budget (Err e)
@@ -52,17 +50,17 @@ weight_next g rows rest done all row e h =
 
 -- a level that is too large
 pub level_large : (a : Arrow) (s t : List Value) (k i : ℕ) (x : Value) (rows : List Row) → k + 1 ≡ i → i ≤ length s → x ≡ get_or s k x → rows ≡ level a t i (drop i s)
-    → 999999 < weight (flat_map (kids a k (nat_lt 0 (length t)) (map (λ y. Pair x y) t)) (reverse rows)) → GrowsLarge a t s
+    → 999999 < weight (flat_map (children a k (nat_lt 0 (length t)) (map (λ y. Pair x y) t)) (reverse rows)) → GrowsLarge a t s
 level_large a s t k i x rows j l e built h =
     let next : suc k ≡ i = omega arith in
     let same : k + 1 ≡ suc k = omega arith in
     let rest : drop k s ≡ x ∷ drop (suc k) s = drop-cons s k x (omega arith) ∙ ap (λ y. y ∷ drop (suc k) s) (sym e) in
     let was : rows ≡ level a t (k + 1) (drop (suc k) s) = built ∙ ap₂ (λ m n. level a t m (drop n s)) (sym j) (sym next) in
-    (k, omega arith, subst (λ (ws : List Value). 999999 < weight (level a t k ws)) (sym rest) (subst (λ (rs : List Row). 999999 < weight (flat_map (kids a k (nat_lt 0 (length t)) (map (λ y. Pair x y) t)) (reverse rs))) was h))
+    (k, omega arith, subst (λ (ws : List Value). 999999 < weight (level a t k ws)) (sym rest) (subst (λ (rs : List Row). 999999 < weight (flat_map (children a k (nat_lt 0 (length t)) (map (λ y. Pair x y) t)) (reverse rs))) was h))
 
 pub refused_here : (e : OpFault) (a : Arrow) (s t : List Value) (k i : ℕ) (x : Value) (rows : List Row) → k + 1 ≡ i → i ≤ length s → x ≡ get_or s k x → rows ≡ level a t i (drop i s)
-    → Gives (flat_map (kids a k (nat_lt 0 (length t)) (map (λ y. Pair x y) t)) (reverse rows)) (999999 < weight (flat_map (kids a k (nat_lt 0 (length t)) (map (λ y. Pair x y) t)) (reverse rows))) (Err e)
+    → Gives (flat_map (children a k (nat_lt 0 (length t)) (map (λ y. Pair x y) t)) (reverse rows)) (999999 < weight (flat_map (children a k (nat_lt 0 (length t)) (map (λ y. Pair x y) t)) (reverse rows))) (Err e)
     → Gives (level a t 0 s) (GrowsLarge a t s) (Err e)
 refused_here e a s t k i x rows j l f built h =
-    let next = flat_map (kids a k (nat_lt 0 (length t)) (map (λ y. Pair x y) t)) (reverse rows) in
+    let next = flat_map (children a k (nat_lt 0 (length t)) (map (λ y. Pair x y) t)) (reverse rows) in
     gives_later e next (level a t 0 s) (999999 < weight next) (GrowsLarge a t s) (level_large a s t k i x rows j l f built) h

@@ -1,6 +1,6 @@
 -- No row is given up, so levels only gain nodes.
-use Rattle.std.proofs.Common.{◌≡◌, ◌⊎◌, ℕ, zero, suc, ◌+◌, ◌-◌, ◌≤◌, ◌<◌, Bool, true, false, List, [], ◌∷◌, ◌++◌, map, length, sum, get_or, drop, drop-cons, arith, refl, sym, ap, ap₂, ◌∙◌, subst, inl, inr}
-use Rattle.std.specs.Prelude.{◌&&◌, ◌||◌, not, nat_lt, reverse, filter, if◌then◌else◌}
+use Rattle.std.proofs.Common.{◌≡◌, ◌⊎◌, ℕ, zero, suc, ◌+◌, ◌-◌, ◌≤◌, ◌<◌, Bool, true, false, List, [], ◌∷◌, ◌++◌, map, length, get_or, drop, drop-cons, arith, refl, sym, ap, ◌∙◌, subst, inl, inr}
+use Rattle.std.specs.Prelude.{not, nat_lt, reverse, filter, if◌then◌else◌}
 use Rattle.std.specs.List.{flat_map}
 use Rattle.std.proofs.lemmas.List.{reverse-append}
 use Rattle.ascending.specs.Ascending.{In, IsAscending}
@@ -12,17 +12,17 @@ use Rattle.b_values.specs.declared.values.Value.TheVariants.{Pair, Set}
 use Rattle.set_making.specs.Sums.{map_cons_sum, map_append_sum, map_member_sum}
 use Rattle.b_funsets.specs.declared.levels.Arrow.{Arrow}
 use Rattle.b_funsets.specs.declared.levels.Row.{Row}
-use Rattle.b_funsets.specs.Arrows.{first, second}
-use Rattle.b_funsets.specs.Levels.{read, hits, viable, left_after, takes, skips, extended, kids, level, weight}
+use Rattle.b_funsets.specs.Arrows.{second}
+use Rattle.b_funsets.specs.Levels.{read, hits, viable, left_after, takes, skips, extended, children, level, weight}
 use Rattle.b_funsets.proofs.ArrowTests.{both_true, either_way, in_reverse, second-Pair}
-use Rattle.b_funsets.proofs.Counting.{left_of, IsReady, ready_means, IsFree, free_one}
-use Rattle.b_funsets.proofs.LevelRows.{IsPartRow, takes_means, some_there, kid_there, rows_are_parts}
+use Rattle.b_funsets.proofs.Counting.{IsReady, ready_means, free_one}
+use Rattle.b_funsets.proofs.LevelRows.{IsPartRow, takes_means, some_there, child_there, rows_are_parts}
 
 -- a row that carries on another, with no fewer nodes
 pub record IsCarried (rows : List Row) (row : Row) : Type 0 where
-  pub kid : Row
-  pub member : In kid rows
-  pub heavier : row.nodes ≤ kid.nodes
+  pub child : Row
+  pub member : In child rows
+  pub heavier : row.nodes ≤ child.nodes
 
 at_most : (n : ℕ) (b : Bool) → left_after n b ≤ n
 at_most n true = omega arith
@@ -33,10 +33,10 @@ none_or_some zero = inl refl
 none_or_some (suc n) = inr (omega arith)
 
 module _ (a : Arrow) (t : List Value) (rising : IsAscending value_cmp t) where
-  takes_on : (s : List Value) (k : ℕ) (x y : Value) (row : Row) → In y t → takes a k (nat_lt 0 (length t)) row (Pair x y) ≡ true → IsCarried (kids a k (nat_lt 0 (length t)) (map (λ y. Pair x y) t) row) row
-  takes_on s k x y row m may = record { kid = extended row (Pair x y); member = kid_there a t rising k x y row m may; heavier = omega arith }
+  takes_on : (s : List Value) (k : ℕ) (x y : Value) (row : Row) → In y t → takes a k (nat_lt 0 (length t)) row (Pair x y) ≡ true → IsCarried (children a k (nat_lt 0 (length t)) (map (λ y. Pair x y) t) row) row
+  takes_on s k x y row m may = record { child = extended row (Pair x y); member = child_there a t rising k x y row m may; heavier = omega arith }
 
-  some_left : (s : List Value) (k : ℕ) (x : Value) (row : Row) → IsPartRow a s t (k + 1) row → 0 < row.left → IsCarried (kids a k (nat_lt 0 (length t)) (map (λ y. Pair x y) t) row) row
+  some_left : (s : List Value) (k : ℕ) (x : Value) (row : Row) → IsPartRow a s t (k + 1) row → 0 < row.left → IsCarried (children a k (nat_lt 0 (length t)) (map (λ y. Pair x y) t) row) row
   some_left s k x row h l =
       let f = free_one a t (read row) (subst (λ n. 0 < n) h.counted l) in
       let fresh : hits (read row) (second (Pair x f.item)) ≡ false = ap (hits (read row)) (second-Pair x f.item) ∙ f.fresh in
@@ -49,12 +49,12 @@ module _ (a : Arrow) (t : List Value) (rising : IsAscending value_cmp t) where
       ((takes_means a k (nat_lt 0 (length t)) row (Pair x f.item)).1
       (λ o. fresh, subst (λ b. IsReady a k (left_after row.left b) (nat_lt 0 (length t))) (sym fresh) ready))
 
-  passed : (s : List Value) (k : ℕ) (x : Value) (row : Row) → IsPartRow a s t (k + 1) row → row.left ≡ 0 → a.total ≡ false → IsCarried (kids a k (nat_lt 0 (length t)) (map (λ y. Pair x y) t) row) row
+  passed : (s : List Value) (k : ℕ) (x : Value) (row : Row) → IsPartRow a s t (k + 1) row → row.left ≡ 0 → a.total ≡ false → IsCarried (children a k (nat_lt 0 (length t)) (map (λ y. Pair x y) t) row) row
   passed s k x row h e off =
       let ready : IsReady a k row.left (nat_lt 0 (length t)) = record { hit = λ o. omega arith; enough = λ o w. absurd cc; any = λ o. absurd cc } in
       let may : skips a k (nat_lt 0 (length t)) row ≡ true = both_true (not a.total) (viable a k row.left (nat_lt 0 (length t))) (ap not off) ((ready_means a k row.left (nat_lt 0 (length t))).1 ready) in
       record {
-        kid = row;
+        child = row;
         member = (in_append row (map (extended row) (filter (takes a k (nat_lt 0 (length t)) row) (map (λ y. Pair x y) t))) (if skips a k (nat_lt 0 (length t)) row then row ∷ [] else [])).1
             (inr (subst (λ b. In row (if b then row ∷ [] else [])) (sym may) (inl refl)));
         heavier = omega arith;
@@ -64,7 +64,7 @@ module _ (a : Arrow) (t : List Value) (rising : IsAscending value_cmp t) where
   a_member [] e = absurd cc
   a_member (y ∷ ys) e = (y, inl refl)
 
-  forced : (s : List Value) (k : ℕ) (x : Value) (row : Row) → IsPartRow a s t (k + 1) row → row.left ≡ 0 → a.total ≡ true → IsCarried (kids a k (nat_lt 0 (length t)) (map (λ y. Pair x y) t) row) row
+  forced : (s : List Value) (k : ℕ) (x : Value) (row : Row) → IsPartRow a s t (k + 1) row → row.left ≡ 0 → a.total ≡ true → IsCarried (children a k (nat_lt 0 (length t)) (map (λ y. Pair x y) t) row) row
   forced s k x row h e on = elim (either_way a.one_to_one) [
     | inl o ↦ absurd (let u = h.ready.enough on o in omega arith)
     | inr o ↦ elim (h.ready.any on) [
@@ -73,7 +73,7 @@ module _ (a : Arrow) (t : List Value) (rising : IsAscending value_cmp t) where
     ]
   ]
     where
-      go : a.one_to_one ≡ false → nat_lt 0 (length t) ≡ true → (y : Value) → In y t → IsCarried (kids a k (nat_lt 0 (length t)) (map (λ y. Pair x y) t) row) row
+      go : a.one_to_one ≡ false → nat_lt 0 (length t) ≡ true → (y : Value) → In y t → IsCarried (children a k (nat_lt 0 (length t)) (map (λ y. Pair x y) t) row) row
       go o w y m = takes_on s k x y row m ((takes_means a k (nat_lt 0 (length t)) row (Pair x y)).1 (
         λ f. absurd cc,
         record {
@@ -84,7 +84,7 @@ module _ (a : Arrow) (t : List Value) (rising : IsAscending value_cmp t) where
       ))
 
   -- each row is carried on
-  pub carried : (s : List Value) (k : ℕ) (x : Value) (row : Row) → IsPartRow a s t (k + 1) row → IsCarried (kids a k (nat_lt 0 (length t)) (map (λ y. Pair x y) t) row) row
+  pub carried : (s : List Value) (k : ℕ) (x : Value) (row : Row) → IsPartRow a s t (k + 1) row → IsCarried (children a k (nat_lt 0 (length t)) (map (λ y. Pair x y) t) row) row
   carried s k x row h = elim (none_or_some row.left) [
     | inr l ↦ some_left s k x row h l
     | inl e ↦ elim (either_way a.total) [ inl o ↦ forced s k x row h e o | inr o ↦ passed s k x row h e o ]
@@ -103,11 +103,11 @@ module _ (a : Arrow) (t : List Value) (rising : IsAscending value_cmp t) where
 
   level_grows : (s : List Value) (k : ℕ) (x : Value) → IsAscending value_cmp (x ∷ s) → weight (level a t (k + 1) s) ≤ weight (level a t k (x ∷ s))
   level_grows s k x up =
-      let g = kids a k (nat_lt 0 (length t)) (map (λ y. Pair x y) t) in
+      let g = children a k (nat_lt 0 (length t)) (map (λ y. Pair x y) t) in
       let more : weight (reverse (level a t (k + 1) s)) ≤ weight (flat_map g (reverse (level a t (k + 1) s))) =
       flat_weight g (reverse (level a t (k + 1) s)) (λ row m.
       let c = carried s k x row (rows_are_parts a t rising s (k + 1) row (ascending_tail value_cmp x s up) ((in_reverse row (level a t (k + 1) s)).0 m)) in
-      omega (arith, c.heavier, map_member_sum (λ (r : Row). r.nodes) c.kid (g row) c.member)) in
+      omega (arith, c.heavier, map_member_sum (λ (r : Row). r.nodes) c.child (g row) c.member)) in
       omega (arith, weight_reverse (level a t (k + 1) s))
 
   rest_ascends : (k : ℕ) (s : List Value) → IsAscending value_cmp s → IsAscending value_cmp (drop k s)

@@ -1,14 +1,13 @@
 -- The places 1, 2, .. n ascend, are values, and are no more than a set of n members.
-use Rattle.std.proofs.Common.{◌≡◌, ◌⊎◌, ℕ, zero, suc, ◌+◌, ◌≤◌, ◌<◌, pos, List, [], ◌∷◌, ◌++◌, map, length, sum, arith, refl, sym, ap, ◌∙◌, subst, inl, inr, add-one, length-append}
-use Rattle.std.specs.declared.cmp.Ordering.{Ordering}
+use Rattle.std.proofs.Common.{◌≡◌, ℕ, zero, suc, ◌+◌, ◌≤◌, ◌<◌, pos, [], ◌∷◌, map, length, sum, arith, refl, sym, ap, ◌∙◌, subst, inl, inr}
 use Rattle.std.specs.declared.cmp.Ordering.TheVariants.{Less}
-use Rattle.std.specs.Ordering.{int_cmp, nat_cmp}
+use Rattle.std.specs.Ordering.{int_cmp}
 use Rattle.std.specs.Cmp.{int_cmp_is}
 use Rattle.std.specs.Prelude.{◌<ℤ◌}
 use Rattle.std.proofs.lemmas.Int.{ints}
 use Rattle.std.specs.List.{AllByRecursion}
 use Rattle.ascending.specs.Ascending.{In, IsAscending}
-use Rattle.ascending.specs.Members.{all_from, all_append, in_push}
+use Rattle.ascending.specs.Members.{all_append, in_push}
 use Rattle.ascending.specs.AscendingLaws.{ascending_none, ascending_push}
 use Rattle.b_values.specs.OrderLaws.{layers_cmp, cmp_out}
 use Rattle.b_values.specs.SizeLaws.{count_at, count-Set, count-Int}

@@ -1,13 +1,11 @@
 -- Where the sets of subsets are too large, and what an answer has.
-use Rattle.std.proofs.Common.{◌≡◌, ◌⊎◌, ◌↔◌, ℕ, ◌+◌, ◌*◌, ◌^◌, ◌<◌, ◌≤◌, List, [], ◌∷◌, ◌++◌, map, length, sum, arith, refl, sym, ap, ◌∙◌, subst, inl, inr, Result, Ok, Err}
+use Rattle.std.proofs.Common.{◌≡◌, ◌↔◌, ℕ, ◌+◌, ◌*◌, ◌^◌, ◌<◌, ◌≤◌, List, [], map, length, arith, refl, ◌∙◌, Result, Err}
 use Rattle.std.specs.Prelude.{IfOk}
-use Rattle.std.specs.List.{AllByRecursion}
 use Rattle.std.proofs.Math.Nat.{pow-le-pow_right, mul-le-mul_left}
 use Rattle.ascending.specs.Ascending.{In, IsAscending}
-use Rattle.b_values.specs.Values.{elements, node_count, value_cmp, limited, IsValue, IsKept}
+use Rattle.b_values.specs.Values.{elements, node_count, value_cmp, IsKept}
 use Rattle.b_values.specs.SizeLaws.{count-Set}
 use Rattle.b_values.specs.ValueLaws.{elements_ascend, elements_are_values}
-use Rattle.b_values.specs.declared.values.FaultKind.{FaultKind}
 use Rattle.b_values.specs.declared.values.FaultKind.TheVariants.{TooLarge}
 use Rattle.b_values.specs.declared.values.Value.{Value}
 use Rattle.b_values.specs.declared.values.Value.TheVariants.{Set}

@@ -1,15 +1,14 @@
 -- The sequences over the empty set.
-use Rattle.std.proofs.Common.{ℕ, zero, suc, ◌+◌, ◌≤◌, map, sum, ◌≡◌, ◌↔◌, ◌==◌, true, List, [], ◌∷◌, length, refl, sym, ap, ◌∙◌, subst, inl, inr, Result, arith}
+use Rattle.std.proofs.Common.{ℕ, zero, suc, ◌+◌, map, sum, ◌≡◌, ◌↔◌, ◌==◌, true, List, [], ◌∷◌, length, refl, sym, ap, ◌∙◌, subst, inl, inr, Result, arith}
 use borrow.Author.Tests.{eqb-true}
 use Rattle.std.specs.Prelude.{IfOk}
-use Rattle.ascending.specs.Ascending.{In, IsAscending}
+use Rattle.ascending.specs.Ascending.{In}
 use Rattle.ascending.specs.AscendingLaws.{ascending_none}
 use Rattle.b_values.specs.Reading.{numbered}
 use Rattle.b_values.specs.SizeLaws.{count-Set}
-use Rattle.b_values.specs.Values.{elements, node_count, value_cmp, IsValue, IsKept}
+use Rattle.b_values.specs.Values.{elements, node_count, value_cmp, IsKept}
 use Rattle.b_values.specs.ValueLaws.{is_set}
 use Rattle.b_values.specs.declared.values.Value.{Value}
-use Rattle.b_values.specs.declared.values.Value.TheVariants.{Set}
 use Rattle.set_making.specs.Making.{set_with, Answers}
 use Rattle.set_making.specs.MakingLaws.{answers_law, answers_kept}
 use Rattle.set_making.specs.declared.OpFault.{OpFault}

@@ -1,5 +1,5 @@
 -- Sets of sets, of relations and of sequences, by their members.
-use Rattle.std.specs.Prelude.{◌≡◌, List, [], ◌∷◌, ◌++◌, map, Result, Ok, Err}
+use Rattle.std.specs.Prelude.{◌≡◌, List, [], ◌∷◌, ◌++◌, map, Result, Err}
 use Rattle.std.specs.List.{flat_map}
 use Rattle.ascending.specs.Ascending.{In, IsAscending}
 use Rattle.b_values.specs.Reading.{numbered}

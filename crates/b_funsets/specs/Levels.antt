@@ -2,10 +2,9 @@
 use Rattle.std.specs.Prelude.{◌≡◌, ℕ, ◌+◌, ◌-◌, ◌<◌, ◌≤◌, drop, Bool, true, ◌&&◌, ◌||◌, not, nat_le, nat_lt, ◌==◌, if◌then◌else◌, List, [], ◌∷◌, ◌++◌, map, filter, reverse, length, sum, Result, Ok, Err}
 use Rattle.std.specs.List.{list_any, flat_map}
 use Rattle.b_values.specs.Values.{node_count, same_value}
-use Rattle.b_values.specs.declared.values.FaultKind.{FaultKind}
 use Rattle.b_values.specs.declared.values.FaultKind.TheVariants.{IllDefined, Overflow, TooLarge}
 use Rattle.b_values.specs.declared.values.Value.{Value}
-use Rattle.b_values.specs.declared.values.Value.TheVariants.{Pair, Set}
+use Rattle.b_values.specs.declared.values.Value.TheVariants.{Pair}
 use Rattle.set_making.specs.declared.OpFault.{OpFault}
 use Rattle.set_making.specs.declared.OpFault.TheVariants.{Fault, Memory}
 use Rattle.b_funsets.specs.declared.levels.Arrow.{Arrow}
@@ -25,7 +24,7 @@ hits r y = list_any (λ p. same_value (second p) y) r
 abbrev pub counts : Arrow → Bool
 counts a = a.onto || (a.total && a.one_to_one)
 
--- a row with so many elements of T left can be completed by k more elements of S
+-- a row with so many elements of T left can be completed by k more elements of S, where T has some or none
 abbrev pub viable : Arrow → ℕ → ℕ → Bool → Bool
 viable a k left some = (not a.onto || nat_le left k) && (not (a.total && a.one_to_one) || nat_le k left) && (not a.total || (k == 0) || some)
 
@@ -46,8 +45,8 @@ abbrev pub extended : Row → Value → Row
 extended row c = record { couples = row.couples ++ c ∷ []; left = left_after row.left (hits row.couples (second c)); nodes = row.nodes + node_count c }
 
 -- the rows that one row becomes at the next element, of these couples
-abbrev pub kids : Arrow → ℕ → Bool → List Value → Row → List Row
-kids a k some cs row = map (extended row) (filter (takes a k some row) cs) ++ (if skips a k some row then row ∷ [] else [])
+abbrev pub children : Arrow → ℕ → Bool → List Value → Row → List Row
+children a k some cs row = map (extended row) (filter (takes a k some row) cs) ++ (if skips a k some row then row ∷ [] else [])
 
 -- the empty row, where it can be completed
 abbrev pub start : Arrow → ℕ → ℕ → List Row
@@ -56,7 +55,7 @@ start a n k = if viable a k (if counts a then n else 0) (nat_lt 0 n) then record
 -- the rows over s that k more elements can complete
 abbrev pub level : Arrow → List Value → ℕ → List Value → List Row
 level a t k [] = start a (length t) k
-level a t k (x ∷ s) = flat_map (kids a k (nat_lt 0 (length t)) (map (λ y. Pair x y) t)) (reverse (level a t (k + 1) s))
+level a t k (x ∷ s) = flat_map (children a k (nat_lt 0 (length t)) (map (λ y. Pair x y) t)) (reverse (level a t (k + 1) s))
 
 -- the nodes of rows together
 abbrev pub weight : List Row → ℕ

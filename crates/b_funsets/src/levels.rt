@@ -3,7 +3,7 @@ ghost use Rattle.std.specs.List.{flat_map};
 ghost use Rattle.b_values.specs.Values.{node_count};
 ghost use Rattle.b_values.specs.declared.values.Value.TheVariants.{Pair, Set};
 ghost use Rattle.b_funsets.specs.Arrows.{second};
-ghost use Rattle.b_funsets.specs.Levels.{extended, hits, kids, left_after, level, read, skips, start, takes, viable, weight, Gives, GrowsLarge, Spends};
+ghost use Rattle.b_funsets.specs.Levels.{extended, hits, children, left_after, level, read, skips, start, takes, viable, weight, Gives, GrowsLarge, Spends};
 
 use crate::subsets::push_couples;
 use b_values::{FaultKind, Value, same_value, share_all, spend};
@@ -79,7 +79,7 @@ fn next_level(
     t: &[Value],
     rows: Items<Row>,
 ) -> Result<Items<Row>, OpFault>
-    ensures { let next = flat_map (kids a k (nat_lt 0 (length t.now)) (map (λ y. Pair x.now y) t.now)) (reverse rows) in Gives next (999999 < weight next) result }
+    ensures { let next = flat_map (children a k (nat_lt 0 (length t.now)) (map (λ y. Pair x.now y) t.now)) (reverse rows) in Gives next (999999 < weight next) result }
 {
     let mut cs = Items::new(alloc);
     if push_couples(alloc, &mut cs, x, t).is_err() {
@@ -96,13 +96,13 @@ fn grown(
     cs: &[Value],
     rows: Items<Row>,
 ) -> Result<Items<Row>, OpFault>
-    ensures { let next = flat_map (kids a k some cs.now) (reverse rows) in Gives next (999999 < weight next) result }
+    ensures { let next = flat_map (children a k some cs.now) (reverse rows) in Gives next (999999 < weight next) result }
 {
     let mut rows = rows;
     let mut next = Items::new(alloc);
     let mut budget = MEMBER_LIMIT;
     while let Some(row) = rows.pop() {
-        match push_kids(alloc, a, k, some, cs, row, &mut next, budget) {
+        match push_children(alloc, a, k, some, cs, row, &mut next, budget) {
             Ok(rest) => budget = rest,
             Err(fault) => return Err(fault),
         }
@@ -111,7 +111,7 @@ fn grown(
 }
 
 /// The rows that one becomes. The last of them takes its couples, the others share them.
-fn push_kids(
+fn push_children(
     alloc: Global,
     a: Arrow,
     k: usize,
@@ -121,8 +121,8 @@ fn push_kids(
     rows: &mut Items<Row>,
     budget: u64,
 ) -> Result<u64, OpFault>
-    ensures spends { Spends (weight (kids a k some cs.now row)) budget result }
-    ensures pushed { OnOk result (rows.new ≡ rows.old ++ kids a k some cs.now row) }
+    ensures spends { Spends (weight (children a k some cs.now row)) budget result }
+    ensures pushed { OnOk result (rows.new ≡ rows.old ++ children a k some cs.now row) }
 {
     let mut ps = match taken(alloc, a, k, some, &row, cs) {
         Ok(ps) => ps,

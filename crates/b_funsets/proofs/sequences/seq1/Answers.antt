@@ -1,4 +1,4 @@
-use Rattle.std.proofs.Common.{◌≡◌, sym, subst}
+use Rattle.std.proofs.Common.{sym, subst}
 use Rattle.ascending.specs.Ascending.{IsAscending}
 use Rattle.ascending.specs.AscendingLaws.{ascending_none}
 use Rattle.b_values.specs.Values.{value_cmp}

@@ -1,4 +1,3 @@
-use Rattle.std.proofs.Common.{ℕ}
 use Rattle.b_funsets.proofs.Refusals.{many_subsets}
 use Rattle.b_funsets.proofs.subsets.is_within.Goals as goal
 

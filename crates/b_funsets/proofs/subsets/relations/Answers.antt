@@ -1,6 +1,6 @@
-use Rattle.std.proofs.Common.{◌≡◌, List, map, sym, ap, ap₂, ◌∙◌, subst}
+use Rattle.std.proofs.Common.{List, map, sym, ap₂, ◌∙◌, subst}
 use Rattle.ascending.specs.Ascending.{IsAscending}
-use Rattle.b_values.specs.Values.{value_cmp, elements}
+use Rattle.b_values.specs.Values.{value_cmp}
 use Rattle.b_values.specs.ValueLaws.{elements_ascend}
 use Rattle.b_values.specs.declared.values.Value.{Value}
 use Rattle.b_values.specs.declared.values.Value.TheVariants.{Set}
