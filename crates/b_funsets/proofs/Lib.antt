@@ -1,0 +1,17 @@
+pub mod SublistLaws
+pub mod SubsetSizes
+pub mod FamilyLaws
+pub mod SubsetSteps
+pub mod CoupleLaws
+pub mod Refusals
+pub mod SequenceLaws
+pub mod ArrowTests
+pub mod Counting
+pub mod LevelSteps
+pub mod LevelRows
+pub mod LevelWeights
+pub mod LevelApart
+pub mod ArrowRows
+pub mod ArrowWords
+pub mod Placing
+pub mod Arranging

@@ -1,0 +1,4 @@
+pub mod Families
+pub mod Arrows
+pub mod Levels
+pub mod Arrangements
