@@ -1,4 +1,4 @@
-ghost use Rattle.std.specs.Prelude.{◌≡◌, ◌↔◌, ◌<◌, ◌≤◌, ◌+ℤ◌, pos, map, IfOk, IsOk, MatchOption};
+ghost use Rattle.std.specs.Prelude.{◌≡◌, ◌↔◌, ◌<◌, ◌-◌, ◌+ℤ◌, pos, length, map, slice_get, IfOk, IsOk, MatchOption};
 ghost use Rattle.std.specs.Option.{ok_or, option_copied};
 ghost use Rattle.ascending.specs.Ascending.{In};
 ghost use Rattle.b_sets.specs.Members.{IsLeast, IsGreatest, IsBetween};
@@ -22,7 +22,7 @@ pub fn min(_alloc: Global, a: &Value) -> Result<Value, OpFault>
     ensures kept { IfOk result (λ v. IsKept v) }
     ensures least { IfOk result (λ v. IsLeast v (elements a.now)) }
 {
-    shared_or_ill_defined(a.members().first())
+    shared_or_ill_defined(least(a.members()))
 }
 
 /// `max(S)`, ill-defined where S is empty.
@@ -32,7 +32,7 @@ pub fn max(_alloc: Global, a: &Value) -> Result<Value, OpFault>
     ensures kept { IfOk result (λ v. IsKept v) }
     ensures greatest { IfOk result (λ v. IsGreatest v (elements a.now)) }
 {
-    shared_or_ill_defined(a.members().last())
+    shared_or_ill_defined(greatest(a.members()))
 }
 
 /// `card(S)`. It takes no memory and always answers.
@@ -57,6 +57,20 @@ pub fn interval(alloc: Global, a: &Value, b: &Value) -> Result<Value, OpFault>
         (Value::Int(low), Value::Int(high)) => set_of_integers(alloc, low, high),
         _ => Err(OpFault::Fault(FaultKind::IllDefined)),
     }
+}
+
+/// The first, which is the least of an ascending list.
+fn least(members: &[Value]) -> Option<&Value>
+    ensures { option_copied result ≡ slice_get members.now 0 }
+{
+    members.first()
+}
+
+/// The last, which is the greatest of an ascending list.
+fn greatest(members: &[Value]) -> Option<&Value>
+    ensures { option_copied result ≡ slice_get members.now (length members.now - 1) }
+{
+    members.last()
 }
 
 fn shared_or_ill_defined(v: Option<&Value>) -> Result<Value, OpFault>
@@ -117,6 +131,7 @@ fn integer_at(low: &i128, high: &i128, place: u64) -> Value
     requires { place < how_many low.now high.now }
     ensures { result ≡ Int (low.now +ℤ pos place) }
 {
+    // Read so that the proof knows its range, which bounds the sum.
     let _high = *high;
     Value::Int(*low + place as i128)
 }

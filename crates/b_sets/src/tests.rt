@@ -256,7 +256,6 @@ fn obeys_de_morgan(rt: HostRuntime) -> Result<(), Fail> {
     let alloc = rt.alloc();
     let face = empty_face(alloc)?;
     let numbers = set_type(alloc, Ty::Int)?;
-    let all = numbers_from(alloc, &face, "1", "3")?;
     for (a, b) in [
         ("{}", "{1}"),
         ("{1,2}", "{2,3}"),
@@ -265,6 +264,7 @@ fn obeys_de_morgan(rt: HostRuntime) -> Result<(), Fail> {
     ] {
         let a = read_value(alloc, &face, &numbers, a.as_bytes())?;
         let b = read_value(alloc, &face, &numbers, b.as_bytes())?;
+        let all = numbers_from(alloc, &face, "1", "3")?;
         assert!(rt; exchanges(alloc, &all, Two::Union, Two::Intersect, &a, &b)?);
         assert!(rt; exchanges(alloc, &all, Two::Intersect, Two::Union, &a, &b)?);
     }

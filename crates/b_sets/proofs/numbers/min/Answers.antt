@@ -8,8 +8,8 @@ use Rattle.b_sets.proofs.numbers.min.Goals as goal
 
 pub returns-clause-kept : goal.returns-clause-kept
 returns-clause-kept c = min_kept _ _ c.requires
-    (subst (λ o. Answers (ok_or o IllDefined) c.shared_or_ill_defined.result) (c.first.ensures.value ∙ ap (λ xs. slice_get xs 0) c.members.ensures) c.shared_or_ill_defined.ensures)
+    (subst (λ o. Answers (ok_or o IllDefined) c.shared_or_ill_defined.result) (c.least.ensures ∙ ap (λ xs. slice_get xs 0) c.members.ensures) c.shared_or_ill_defined.ensures)
 
 pub returns-clause-least : goal.returns-clause-least
 returns-clause-least c = min_law _ _ c.requires
-    (subst (λ o. Answers (ok_or o IllDefined) c.shared_or_ill_defined.result) (c.first.ensures.value ∙ ap (λ xs. slice_get xs 0) c.members.ensures) c.shared_or_ill_defined.ensures)
+    (subst (λ o. Answers (ok_or o IllDefined) c.shared_or_ill_defined.result) (c.least.ensures ∙ ap (λ xs. slice_get xs 0) c.members.ensures) c.shared_or_ill_defined.ensures)
