@@ -65,7 +65,7 @@ direct_is r s ms ns result e f a = subst (λ l. Answers (set_with l) result) (at
 pub parallel_is : (r s : Value) (ms ns : List Value) (result : Result Value OpFault) → ms ≡ elements r → ns ≡ elements s → Answers (set_with (joined Parallel (couples_in ms) (couples_in ns))) result → Answers (parallel_row r s) result
 parallel_is r s ms ns result e f a =
     subst (λ l. Answers (set_with l) result)
-        (at_members Parallel r s ms ns e f ∙ all_joined (λ p q. Pair (Pair p.0 q.0) (Pair p.1 q.1)) (couples_in (elements r)) (couples_in (elements s))) a
+    (at_members Parallel r s ms ns e f ∙ all_joined (λ p q. Pair (Pair p.0 q.0) (Pair p.1 q.1)) (couples_in (elements r)) (couples_in (elements s))) a
 
 products : (side : Side) (s t : Value) (xs ys : List Value) → xs ≡ elements s → ys ≡ elements t → flat_map (λ x. map (projection side x) ys) xs ≡ flat_map (λ x. map (projection side x) (elements t)) (elements s)
 products side s t xs ys e f = rw (e, f) refl

@@ -30,7 +30,7 @@ pub old_couples : (r s : Value) (firsts : List Value) → firsts ≡ set_of valu
 old_couples r s firsts e =
     chosen_parts (keeps Left firsts false) (elements r)
     ∙ ap (map couple) (filter_same (keeps Left firsts false) (λ p. not (is_among (dom_members s) p.0))
-        (λ p. ap not (ap (λ l. is_among l p.0) e ∙ among_same (set_of value_cmp (dom_members s)) (dom_members s) (λ z. in_set_of value_cmp value_total value_same z (dom_members s)) p.0)) (couples r))
+    (λ p. ap not (ap (λ l. is_among l p.0) e ∙ among_same (set_of value_cmp (dom_members s)) (dom_members s) (λ z. in_set_of value_cmp value_total value_same z (dom_members s)) p.0)) (couples r))
 
 -- both, merged
 pub both_merged : (r s : Value) (old new : List Value) (result : Result (List Value) AllocError) → old ≡ map couple (filter (λ p. not (is_among (dom_members s) p.0)) (couples r)) → new ≡ map couple (couples s)

@@ -8,7 +8,7 @@ pub grown-requires : goal.grown-requires
 grown-requires t c =
     let d = c.decreases in
     let h : 1000000 - length (elements c.in-Ok.more) < 1000000 - length (elements c.args.s.now) =
-        step_shorter c.args.s.now c.in-Ok.more c.requires.kept c.requires.relation c.in-Ok.ensures (λ q. c.if-members.false (ap length c.members.ensures ∙ q ∙ ap length (sym c.members-in-Ok.ensures))) in
+    step_shorter c.args.s.now c.in-Ok.more c.requires.kept c.requires.relation c.in-Ok.ensures (λ q. c.if-members.false (ap length c.members.ensures ∙ q ∙ ap length (sym c.members-in-Ok.ensures))) in
     (omega arith, (step_kept c.args.s.now c.in-Ok.more c.requires.kept c.requires.relation c.in-Ok.ensures, step_relation c.args.s.now c.in-Ok.more c.requires.relation c.in-Ok.ensures))
 
 pub returns-then-members : goal.returns-then-members
