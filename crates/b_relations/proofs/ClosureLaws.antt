@@ -1,18 +1,17 @@
 -- The closures by growing: each step has the same closure, and where nothing grows the closure is there.
-use Rattle.std.proofs.Common.{◌≡◌, ◌≢◌, ◌⊎◌, ◌↔◌, ◌+◌, ◌-◌, ◌<◌, ◌≤◌, ℕ, zero, suc, Bool, true, false, List, [], ◌∷◌, ◌++◌, map, sum, length, arith, refl, sym, ap, ◌∙◌, subst, inl, inr, Result, Ok, Err}
+use Rattle.std.proofs.Common.{◌≡◌, ◌≢◌, ◌⊎◌, ◌↔◌, ◌-◌, ◌<◌, ◌≤◌, ℕ, zero, suc, Bool, true, false, List, [], ◌∷◌, ◌++◌, map, length, arith, refl, sym, ap, ◌∙◌, subst, inl, inr, Result, Ok, Err}
 use Rattle.std.specs.Prelude.{IfOk}
-use Rattle.std.specs.List.{AllByRecursion, IsDistinct, flat_map}
+use Rattle.std.specs.List.{AllByRecursion, IsDistinct}
 use Rattle.std.specs.declared.cmp.Ordering.TheVariants.{Less}
 use Rattle.std.specs.Ordering.{is_eq}
 use Rattle.ascending.specs.Ascending.{In, IsAscending, set_of}
-use Rattle.ascending.specs.Members.{all_in, all_from, all_weaker, in_append}
+use Rattle.ascending.specs.Members.{all_from, all_weaker, in_append}
 use Rattle.ascending.specs.AscendingLaws.{ascending_head, ascending_tail, in_set_of}
 use Rattle.b_values.specs.OrderLaws.{value_total, value_same}
 use Rattle.b_values.specs.SameLaws.{value_decides}
 use Rattle.b_values.specs.SizeLaws.{count_at, count-elements}
 use Rattle.b_values.specs.ValueLaws.{elements_ascend}
 use Rattle.b_values.specs.Values.{IsKept, IsValue, elements, node_count, same_value, value_cmp}
-use Rattle.b_values.specs.declared.values.FaultKind.{FaultKind}
 use Rattle.b_values.specs.declared.values.Value.{Value, out-Value}
 use Rattle.b_values.specs.declared.values.Value.TheOpen.{Value-F}
 use Rattle.b_values.specs.declared.values.Value.TheVariants.{Pair}
@@ -25,13 +24,13 @@ use Rattle.b_relations.specs.Closing.{IsRelation}
 use Rattle.b_relations.specs.CoupleLaws.{in_couples, in_couple_map}
 use Rattle.set_making.specs.ListMembers.{in_map}
 use Rattle.b_relations.specs.Listed.{SameMembers}
-use Rattle.b_relations.specs.Relations.{Relates, InDomain, InRange, Includes, IsTransitive, IsReflexiveOn, IsTransitiveClosure, IsReflexiveClosure, couple, couples, couples_in, composed, compose_members, compose_row, field, iterated, closure1_members, closure1_row, closure_members, closure_row}
+use Rattle.b_relations.specs.Relations.{Relates, IsTransitiveClosure, IsReflexiveClosure, couple, couples, couples_in, composed, compose_members, compose_row, field, iterated, closure1_members, closure1_row, closure_members, closure_row}
 use Rattle.b_relations.proofs.Paths.{Reaches, iterated_none, no_longer}
 use Rattle.b_relations.proofs.Reaching.{Parts, Within, from_one, from_none, in_from_one, in_from_none, in_closure1, in_closure, reaches_first, reaches_on, reaches_least, square_reaches, closed_reaches, same_reaches, stands}
 use Rattle.b_relations.proofs.Gathers.{answer_of_fault}
 use Rattle.b_relations.proofs.Results.{answers_fact}
 use Rattle.b_relations.proofs.RowLaws.{related, in_composed}
-use Rattle.b_relations.proofs.RowValues.{PartsAreValues, couples_values, compose_values, composed_values, couple_map_values}
+use Rattle.b_relations.proofs.RowValues.{PartsAreValues, couples_values, composed_values, couple_map_values}
 
 -- ---- lists of couples
 

@@ -1,17 +1,15 @@
 -- The image of a value under a function, and the images of a set.
-use Rattle.std.proofs.Common.{◌≡◌, ◌⊎◌, ◌↔◌, ◌<◌, ◌≤◌, ◌≢◌, ℕ, zero, suc, Bool, true, false, cond, List, [], ◌∷◌, ◌++◌, map, length, Option, Some, None, Result, Ok, Err, arith, refl, sym, ap, ◌∙◌, subst, inl, inr}
+use Rattle.std.proofs.Common.{◌≡◌, ◌⊎◌, ◌↔◌, ◌<◌, ◌≤◌, ◌≢◌, ℕ, zero, suc, Bool, true, false, cond, List, [], ◌∷◌, map, length, Result, Ok, Err, arith, refl, sym, ap, ◌∙◌, subst, inl, inr}
 use Rattle.std.specs.Prelude.{IfOk}
 use Rattle.std.specs.List.{filter, flat_map, cons_option}
 use Rattle.std.specs.Ordering.{is_eq}
 use Rattle.ascending.specs.Ascending.{In}
 use Rattle.b_values.specs.SameLaws.{value_decides}
 use Rattle.b_values.specs.Values.{IsKept, elements, same_value, value_cmp}
-use Rattle.b_values.specs.declared.values.FaultKind.{FaultKind}
 use Rattle.b_values.specs.declared.values.FaultKind.TheVariants.{IllDefined}
 use Rattle.b_values.specs.declared.values.Value.{Value, out-Value}
 use Rattle.b_values.specs.declared.values.Value.TheOpen.{Value-F}
 use Rattle.set_making.specs.declared.OpFault.{OpFault}
-use Rattle.set_making.specs.declared.OpFault.TheVariants.{Fault, Memory}
 use Rattle.set_making.specs.Making.{Answers}
 use Rattle.set_making.specs.MakingLaws.{member_kept, parts_kept}
 use Rattle.set_making.specs.ListMembers.{in_map, in_filter, in_flat_map}

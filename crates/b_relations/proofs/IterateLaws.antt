@@ -1,5 +1,5 @@
 -- Iterates by squaring, and compositions that are gathered with doubles taken out.
-use Rattle.std.proofs.Common.{◌≡◌, ◌⊎◌, ◌↔◌, ◌+◌, ◌*◌, ◌/◌, ◌%◌, ◌<◌, ◌≤◌, ℕ, ℤ, pos, negsuc, zero, suc, List, [], ◌∷◌, ◌++◌, map, length, get_or, take, Result, Ok, Err, Option, Some, None, arith, append-nil, refl, sym, ap, ◌∙◌, subst, inl, inr}
+use Rattle.std.proofs.Common.{◌≡◌, ◌↔◌, ◌+◌, ◌/◌, ◌%◌, ◌<◌, ◌≤◌, ℕ, pos, negsuc, zero, suc, List, [], ◌∷◌, ◌++◌, map, length, get_or, take, Result, Ok, Err, arith, append-nil, refl, sym, ap, ◌∙◌, subst, inl, inr}
 use Rattle.std.specs.Prelude.{IfOk}
 use Rattle.std.specs.List.{flat_map, filter, cons_option}
 use Rattle.std.specs.declared.alloc.AllocError.{AllocError}
@@ -9,10 +9,8 @@ use Rattle.ascending.specs.Members.{in_append}
 use Rattle.ascending.specs.AscendingLaws.{in_set_of, set_of_same}
 use Rattle.b_values.specs.OrderLaws.{value_total, value_same}
 use Rattle.b_values.specs.Values.{IsKept, elements, value_cmp, same_value}
-use Rattle.b_values.specs.declared.values.FaultKind.{FaultKind}
 use Rattle.b_values.specs.declared.values.FaultKind.TheVariants.{IllDefined}
 use Rattle.b_values.specs.declared.values.Value.{Value, out-Value}
-use Rattle.b_values.specs.declared.values.Value.TheOpen.{Value-F}
 use Rattle.b_values.specs.declared.values.Value.TheVariants.{Int, Pair, outs-Int}
 use Rattle.set_making.specs.declared.OpFault.{OpFault}
 use Rattle.set_making.specs.Making.{set_with, Answers}
@@ -30,7 +28,6 @@ use Rattle.b_relations.proofs.Paths.{iterated_add, iterated_split, iterated_next
 use Rattle.b_relations.proofs.Reaching.{Parts, leads}
 use Rattle.b_relations.proofs.Results.{answers_relation}
 use Rattle.b_relations.proofs.RowLaws.{in_composed}
-use Rattle.b_relations.proofs.Searching.{group_parts}
 
 -- ---- lists with the same members
 

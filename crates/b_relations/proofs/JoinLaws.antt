@@ -1,17 +1,16 @@
 -- The loops that join couples give the members of the rows.
-use Rattle.std.proofs.Common.{◌≡◌, ◌↔◌, ◌≤◌, ◌<◌, ℕ, Bool, true, List, [], ◌∷◌, ◌++◌, map, length, take, Option, Some, None, Result, Ok, Err, refl, sym, ap, ◌∙◌, subst}
+use Rattle.std.proofs.Common.{◌≡◌, ◌↔◌, ◌≤◌, ℕ, List, [], ◌∷◌, ◌++◌, map, length, take, Result, Ok, refl, sym, ap, ◌∙◌, subst}
 use Rattle.std.specs.Prelude.{OnOk, IfErr, IfOk}
 use Rattle.std.specs.List.{filter, flat_map, cons_option}
 use Rattle.std.proofs.lemmas.List.{take_all}
 use Rattle.ascending.specs.Ascending.{In, insert}
 use Rattle.b_values.specs.Values.{elements, same_value, value_cmp}
-use Rattle.b_values.specs.declared.values.FaultKind.{FaultKind}
 use Rattle.b_values.specs.declared.values.Value.{Value}
 use Rattle.b_values.specs.declared.values.Value.TheVariants.{Pair}
 use Rattle.set_making.specs.declared.OpFault.{OpFault}
 use Rattle.set_making.specs.Making.{set_with, Answers, FaultOf}
 use Rattle.b_relations.specs.CoupleLaws.{parts-Pair}
-use Rattle.b_relations.specs.Joining.{Adds, meets, made, joined, projection}
+use Rattle.b_relations.specs.Joining.{Adds, made, joined, projection}
 use Rattle.b_relations.specs.declared.joining.Join.{Join}
 use Rattle.b_relations.specs.declared.joining.Join.TheVariants.{Compose, Direct, Parallel}
 use Rattle.b_relations.specs.declared.walking.Side.{Side}

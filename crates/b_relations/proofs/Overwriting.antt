@@ -1,9 +1,9 @@
 -- The couples that an overriding leaves, and those that it brings.
-use Rattle.std.proofs.Common.{◌≡◌, ◌↔◌, Bool, true, false, not, List, [], ◌∷◌, ◌++◌, map, Result, refl, sym, ap, ◌∙◌, subst}
+use Rattle.std.proofs.Common.{◌≡◌, false, not, List, [], ◌++◌, map, Result, sym, ap, ◌∙◌, subst}
 use Rattle.std.specs.Prelude.{IfOk}
 use Rattle.std.specs.declared.alloc.AllocError.{AllocError}
 use Rattle.std.specs.List.{filter}
-use Rattle.ascending.specs.Ascending.{In, set_of}
+use Rattle.ascending.specs.Ascending.{set_of}
 use Rattle.ascending.specs.AscendingLaws.{in_set_of}
 use Rattle.b_values.specs.OrderLaws.{value_total, value_same}
 use Rattle.b_values.specs.Values.{elements, value_cmp}

@@ -1,7 +1,7 @@
 -- Iterates of a relation: how they add up, and that each couple of one is in an iterate up to the number of couples.
 use Rattle.std.proofs.Common.{◌≡◌, ◌⊎◌, ◌↔◌, ◌+◌, ◌<◌, ◌≤◌, ℕ, zero, suc, Bool, true, false, ◌||◌, List, [], ◌∷◌, ◌++◌, map, length, arith, refl, sym, ap, ◌∙◌, subst, inl, inr}
-use Rattle.std.specs.List.{AllByRecursion, IsDistinct, flat_map, list_any, range_with_len}
-use Rattle.std.specs.Cmp.{IsEquivalence, eq_by_cmp_equiv}
+use Rattle.std.specs.List.{AllByRecursion, IsDistinct, list_any}
+use Rattle.std.specs.Cmp.{eq_by_cmp_equiv}
 use Rattle.std.proofs.lemmas.Map.Made.{length-le_from_is_member}
 use Rattle.ascending.specs.Ascending.{In}
 use Rattle.ascending.specs.Members.{in_append}
@@ -9,9 +9,9 @@ use Rattle.b_values.specs.OrderLaws.{value_total}
 use Rattle.b_values.specs.SameLaws.{value_decides}
 use Rattle.b_values.specs.Values.{same_value}
 use Rattle.b_values.specs.declared.values.Value.{Value}
-use Rattle.set_making.specs.ListMembers.{in_map, in_flat_map}
+use Rattle.set_making.specs.ListMembers.{in_map}
 use Rattle.b_relations.specs.CoupleLaws.{same_parts, in_couple_map}
-use Rattle.b_relations.specs.Relations.{couple, composed, field, iterated}
+use Rattle.b_relations.specs.Relations.{couple, field, iterated}
 use Rattle.b_relations.proofs.RowLaws.{in_composed}
 
 -- ---- what stands in a couple

@@ -1,14 +1,12 @@
 -- What a relation reaches in some steps, and the laws of its closures.
-use Rattle.std.proofs.Common.{◌≡◌, ◌⊎◌, ◌↔◌, ◌+◌, ◌<◌, ◌≤◌, ℕ, zero, suc, List, [], ◌∷◌, ◌++◌, map, length, arith, refl, sym, ap, ◌∙◌, subst, inl, inr}
+use Rattle.std.proofs.Common.{◌≡◌, ◌⊎◌, ◌↔◌, ◌+◌, ◌<◌, ◌≤◌, ℕ, zero, suc, List, length, arith, refl, ap, subst, inl, inr}
 use Rattle.std.specs.List.{flat_map, range_with_len}
 use Rattle.ascending.specs.Ascending.{In}
-use Rattle.ascending.specs.Members.{in_append}
 use Rattle.b_values.specs.declared.values.Value.{Value}
 use Rattle.b_values.specs.declared.values.Value.TheVariants.{Pair}
-use Rattle.set_making.specs.ListMembers.{in_map, in_flat_map}
-use Rattle.b_relations.specs.Listed.{SameMembers}
+use Rattle.set_making.specs.ListMembers.{in_flat_map}
 use Rattle.b_relations.specs.CoupleLaws.{in_couple_map}
-use Rattle.b_relations.specs.Relations.{Relates, InDomain, InRange, Leads, couple, couples, composed, field, iterated, closure1_members, closure_members}
+use Rattle.b_relations.specs.Relations.{InDomain, InRange, Leads, couples, composed, field, iterated, closure1_members, closure_members}
 use Rattle.b_relations.proofs.RowLaws.{in_composed, related}
 use Rattle.b_relations.proofs.Paths.{Reaches, iterated_none, iterated_next, iterated_one, iterated_add, in_field, reached_soon}
 

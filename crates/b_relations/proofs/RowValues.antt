@@ -1,9 +1,8 @@
 -- What the rows list are values, where the operands are.
-use Rattle.std.proofs.Common.{◌≡◌, ◌⊎◌, ◌↔◌, Bool, true, false, not, List, [], ◌∷◌, ◌++◌, map, refl, sym, ap, ◌∙◌, subst, inl, inr}
+use Rattle.std.proofs.Common.{Bool, not, List, ◌++◌, map, sym, subst, inl, inr}
 use Rattle.std.specs.List.{filter, flat_map, AllByRecursion}
 use Rattle.ascending.specs.Ascending.{In}
-use Rattle.ascending.specs.Members.{all_in, all_from, all_append, in_append}
-use Rattle.b_values.specs.SameLaws.{value_decides}
+use Rattle.ascending.specs.Members.{all_in, all_from, in_append}
 use Rattle.b_values.specs.ValueLaws.{elements_are_values, is_couple, couple_parts}
 use Rattle.b_values.specs.Values.{elements, same_value, IsValue}
 use Rattle.b_values.specs.declared.values.Value.{Value}
@@ -11,7 +10,7 @@ use Rattle.b_values.specs.declared.values.Value.TheVariants.{Pair}
 use Rattle.set_making.specs.Making.{is_among}
 use Rattle.set_making.specs.ListMembers.{in_map, in_filter, in_flat_map}
 use Rattle.b_relations.specs.CoupleLaws.{in_couples}
-use Rattle.b_relations.specs.Relations.{couple, couples, composed, dom_members, ran_members, converse_members, identity_members, image_members, dom_restrict_members, dom_subtract_members, ran_restrict_members, ran_subtract_members, overwrite_members, compose_members, direct_members, parallel_members, prj1_members, prj2_members}
+use Rattle.b_relations.specs.Relations.{couple, couples, composed, dom_members, ran_members, converse_members, identity_members, image_members, overwrite_members, compose_members, direct_members, parallel_members, prj1_members, prj2_members}
 use Rattle.b_relations.proofs.RowLaws.{in_composed}
 
 -- both parts of each are values

@@ -1,15 +1,15 @@
 -- Couples with one first part stand together, and two binary searches find them.
-use Rattle.std.proofs.Common.{◌≡◌, ◌⊎◌, ◌↔◌, ◌<◌, ◌≤◌, ◌+◌, ◌-◌, ℕ, zero, suc, Bool, true, false, not, cond, List, [], ◌∷◌, ◌++◌, map, length, get_or, take, drop, Option, Some, None, arith, refl, sym, ap, ◌∙◌, subst, inl, inr}
-use Rattle.std.specs.List.{filter, filter_map, cons_option}
+use Rattle.std.proofs.Common.{◌≡◌, ◌⊎◌, ◌<◌, ◌≤◌, ◌+◌, ◌-◌, ℕ, zero, suc, Bool, true, false, not, cond, List, [], ◌∷◌, map, length, get_or, take, drop, Option, Some, None, arith, refl, sym, ap, ◌∙◌, subst, inl, inr}
+use Rattle.std.specs.List.{filter, cons_option}
 use Rattle.std.specs.List.Sorted.{IsPartitionedBy, IsPartitionPoint}
 use Rattle.std.proofs.lemmas.List.{take_all}
 use Rattle.std.specs.declared.cmp.Ordering.{Ordering}
 use Rattle.std.specs.declared.cmp.Ordering.TheVariants.{Less, Equal, Greater}
 use Rattle.std.specs.Ordering.{is_lt, is_eq, is_gt, ordering_then}
 use Rattle.std.proofs.lemmas.Bool.{cases_lt}
-use Rattle.ascending.specs.Ascending.{In, IsAscending}
+use Rattle.ascending.specs.Ascending.{IsAscending}
 use Rattle.ascending.specs.Members.{all_in, in_at}
-use Rattle.ascending.specs.AscendingLaws.{ascending_head, ascending_tail, ascending_none}
+use Rattle.ascending.specs.AscendingLaws.{ascending_head, ascending_tail}
 use Rattle.b_values.specs.OrderLaws.{layers_cmp, cmp_out, value_same, value_chain}
 use Rattle.b_values.specs.Values.{value_cmp, same_value}
 use Rattle.b_values.specs.declared.values.Value.{Value, out-Value}

@@ -1,9 +1,6 @@
 -- The laws of couples, and of the test whether a value is one of a list.
-use Rattle.std.proofs.Common.{◌≡◌, ◌⊎◌, ◌↔◌, Bool, true, false, not, ◌||◌, List, [], ◌∷◌, ◌++◌, map, Option, Some, None, refl, sym, ap, ◌∙◌, subst, inl, inr}
-use Rattle.std.specs.List.{filter, filter_map, flat_map, list_any}
+use Rattle.std.proofs.Common.{◌≡◌, ◌↔◌, Bool, true, false, not, List, map, Some, refl, sym, ap, ◌∙◌, subst}
 use Rattle.ascending.specs.Ascending.{In}
-use Rattle.b_values.specs.SameLaws.{value_decides}
-use Rattle.b_values.specs.Values.{same_value}
 use Rattle.b_values.specs.declared.values.Value.{Value, out-Value, roll-Value, roll-out-Value}
 use Rattle.b_values.specs.declared.values.Value.TheOpen.{Value-F}
 use Rattle.b_values.specs.declared.values.Value.TheVariants.{Pair, outs-Pair, rolls-Pair}

@@ -1,4 +1,4 @@
-use Rattle.std.proofs.Common.{◌≡◌, ◌++◌, ◌-◌, ◌<◌, length, arith, sym, ap, ◌∙◌}
+use Rattle.std.proofs.Common.{◌++◌, ◌-◌, ◌<◌, length, arith, sym, ap, ◌∙◌}
 use Rattle.b_values.specs.Values.{elements}
 use Rattle.b_relations.specs.Relations.{closure1_members, compose_members}
 use Rattle.b_relations.proofs.ClosureLaws.{grown_whole, step_kept, step_relation, step_shorter, step_answer, step_within, part_fault}

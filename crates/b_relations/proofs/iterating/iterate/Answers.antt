@@ -1,5 +1,4 @@
 use Rattle.std.proofs.Common.{◌≡◌, pos, rules, arith, sym, ap, ◌∙◌, subst}
-use Rattle.std.proofs.lemmas.Grind.{common_steps}
 use Rattle.std.proofs.lemmas.Int.{ints, to_z-of_z}
 use Rattle.b_values.specs.declared.values.Value.TheVariants.{Int}
 use Rattle.set_making.specs.Making.{Answers}
