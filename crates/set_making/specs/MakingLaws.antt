@@ -196,3 +196,8 @@ few_enough xs ys left a h e = ap set_with (sym e) ∙ set_in_order_with ys (subs
 -- members in order with one more that passes the limit are refused
 pub one_too_many : (xs ys : List Value) (v : Value) (left : ℕ) → ys ≡ xs → sum (map node_count ys) + left ≡ 999999 → left < node_count v → IsAscending value_cmp (xs ++ v ∷ []) → set_with (xs ++ v ∷ []) ≡ Err TooLarge
 one_too_many xs ys v left e h l a = too_many (xs ++ v ∷ []) a (omega (arith, map_append_sum node_count xs (v ∷ []), map_cons_sum node_count v [], ap (λ zs. sum (map node_count zs)) e))
+
+-- a row's fault answers it
+pub answers_fault : (row : Result Value FaultKind) (e : OpFault) → FaultOf row e → Answers row (Err e)
+answers_fault row (Fault k) a = a
+answers_fault row Memory a = tt

@@ -76,3 +76,6 @@ pub fn is_among(items: &[Value], x: &Value) -> bool
 {
     is_member(items, x)
 }
+
+#[cfg(test)]
+mod tests;
