@@ -1,18 +1,17 @@
 -- The closures by growing: each step has the same closure, and where nothing grows the closure is there.
-use Rattle.std.proofs.Common.{◌≡◌, ◌≢◌, ◌⊎◌, ◌↔◌, ◌+◌, ◌-◌, ◌<◌, ◌≤◌, ℕ, zero, suc, Bool, true, false, List, [], ◌∷◌, ◌++◌, map, sum, length, arith, refl, sym, ap, ◌∙◌, subst, inl, inr, Result, Ok, Err}
+use Rattle.std.proofs.Common.{◌≡◌, ◌≢◌, ◌⊎◌, ◌↔◌, ◌-◌, ◌<◌, ◌≤◌, ℕ, zero, suc, Bool, true, false, List, [], ◌∷◌, ◌++◌, map, length, arith, refl, sym, ap, ◌∙◌, subst, inl, inr, Result, Ok, Err}
 use Rattle.std.specs.Prelude.{IfOk}
-use Rattle.std.specs.List.{AllByRecursion, IsDistinct, flat_map}
+use Rattle.std.specs.List.{AllByRecursion, IsDistinct}
 use Rattle.std.specs.declared.cmp.Ordering.TheVariants.{Less}
 use Rattle.std.specs.Ordering.{is_eq}
 use Rattle.ascending.specs.Ascending.{In, IsAscending, set_of}
-use Rattle.ascending.specs.Members.{all_in, all_from, all_weaker, in_append}
+use Rattle.ascending.specs.Members.{all_from, all_weaker, in_append}
 use Rattle.ascending.specs.AscendingLaws.{ascending_head, ascending_tail, in_set_of}
 use Rattle.b_values.specs.OrderLaws.{value_total, value_same}
 use Rattle.b_values.specs.SameLaws.{value_decides}
 use Rattle.b_values.specs.SizeLaws.{count_at, count-elements}
 use Rattle.b_values.specs.ValueLaws.{elements_ascend}
 use Rattle.b_values.specs.Values.{IsKept, IsValue, elements, node_count, same_value, value_cmp}
-use Rattle.b_values.specs.declared.values.FaultKind.{FaultKind}
 use Rattle.b_values.specs.declared.values.Value.{Value, out-Value}
 use Rattle.b_values.specs.declared.values.Value.TheOpen.{Value-F}
 use Rattle.b_values.specs.declared.values.Value.TheVariants.{Pair}
@@ -23,33 +22,35 @@ use Rattle.set_making.specs.MakingLaws.{set_with_members, set_with_same, set_wit
 use Rattle.set_making.specs.Sums.{length_below_sum}
 use Rattle.b_relations.specs.Closing.{IsRelation}
 use Rattle.b_relations.specs.CoupleLaws.{in_couples, in_couple_map}
-use Rattle.b_relations.specs.Listed.{SameMembers, in_map}
-use Rattle.b_relations.specs.Relations.{Relates, InDomain, InRange, Includes, IsTransitive, IsReflexiveOn, IsTransitiveClosure, IsReflexiveClosure, couple, couples, couples_in, composed, compose_members, compose_row, field, iterated, closure1_members, closure1_row, closure_members, closure_row}
+use Rattle.set_making.specs.ListMembers.{in_map}
+use Rattle.b_relations.specs.Listed.{SameMembers}
+use Rattle.b_relations.specs.Relations.{Relates, IsTransitiveClosure, IsReflexiveClosure, couple, couples, couples_in, composed, compose_members, compose_row, field, iterated, closure1_members, closure1_row, closure_members, closure_row}
 use Rattle.b_relations.proofs.Paths.{Reaches, iterated_none, no_longer}
 use Rattle.b_relations.proofs.Reaching.{Parts, Within, from_one, from_none, in_from_one, in_from_none, in_closure1, in_closure, reaches_first, reaches_on, reaches_least, square_reaches, closed_reaches, same_reaches, stands}
+use Rattle.b_relations.proofs.Gathers.{answer_of_fault}
 use Rattle.b_relations.proofs.Results.{answers_fact}
 use Rattle.b_relations.proofs.RowLaws.{related, in_composed}
-use Rattle.b_relations.proofs.RowValues.{PartsAreValues, couples_values, compose_values, composed_values, couple_map_values}
+use Rattle.b_relations.proofs.RowValues.{PartsAreValues, couples_values, composed_values, couple_map_values}
 
 -- ---- lists of couples
 
 -- couples with the same parts are the same members
 pub same_couples : (ps qs : Parts) → SameMembers ps qs → SameMembers (map couple ps) (map couple qs)
 same_couples ps qs f z = (
-  λ h. let k = (in_map couple ps z).0 h in (in_map couple qs z).1 (k.0, (f k.0).0 k.1, k.2),
-  λ h. let k = (in_map couple qs z).0 h in (in_map couple ps z).1 (k.0, (f k.0).1 k.1, k.2),
+  λ h. let k = (in_map couple z ps).0 h in (in_map couple z qs).1 (k.0, (f k.0).0 k.1, k.2),
+  λ h. let k = (in_map couple z qs).0 h in (in_map couple z ps).1 (k.0, (f k.0).1 k.1, k.2),
 )
 
 -- a relation's members are the couples of its parts
 pub relation_members : (s : Value) → IsRelation s → SameMembers (elements s) (map couple (couples s))
 relation_members s rel z = (
-  λ h. let k = rel z h in (in_map couple (couples s) z).1 (k.0, (in_couples (elements s) k.0).1 (subst (λ w. In w (elements s)) k.1 h), k.1),
-  λ h. let k = (in_map couple (couples s) z).0 h in subst (λ w. In w (elements s)) (sym k.2) ((in_couples (elements s) k.0).0 k.1),
+  λ h. let k = rel z h in (in_map couple z (couples s)).1 (k.0, (in_couples (elements s) k.0).1 (subst (λ w. In w (elements s)) k.1 h), k.1),
+  λ h. let k = (in_map couple z (couples s)).0 h in subst (λ w. In w (elements s)) (sym k.2) ((in_couples (elements s) k.0).0 k.1),
 )
 
 -- the set of couples is a relation, with these parts
 pub made_relation : (ps : Parts) (v : Value) → set_with (map couple ps) ≡ Ok v → IsRelation v
-made_relation ps v e z h = let k = (in_map couple ps z).0 ((set_with_members (map couple ps) v e z).0 h) in (k.0, k.2)
+made_relation ps v e z h = let k = (in_map couple z ps).0 ((set_with_members (map couple ps) v e z).0 h) in (k.0, k.2)
 
 pub made_parts : (ps : Parts) (v : Value) → set_with (map couple ps) ≡ Ok v → SameMembers (couples v) ps
 made_parts ps v e p = (
@@ -68,15 +69,14 @@ doubled_members s rel z =
     let all = in_append z (elements s) (compose_members s s) in
     let m = relation_members s rel z in
     let ps = couples s in
-    let cs = composed ps ps in
-    (
+    let cs = composed ps ps in (
       λ h. elim (all.0 h) [
-        | inl k ↦ (let f = (in_map couple ps z).0 (m.0 k) in (in_map couple (ps ++ cs) z).1 (f.0, (in_append f.0 ps cs).1 (inl f.1), f.2))
-        | inr k ↦ (let f = (in_map couple cs z).0 k in (in_map couple (ps ++ cs) z).1 (f.0, (in_append f.0 ps cs).1 (inr f.1), f.2))
+        | inl k ↦ (let f = (in_map couple z ps).0 (m.0 k) in (in_map couple z (ps ++ cs)).1 (f.0, (in_append f.0 ps cs).1 (inl f.1), f.2))
+        | inr k ↦ (let f = (in_map couple z cs).0 k in (in_map couple z (ps ++ cs)).1 (f.0, (in_append f.0 ps cs).1 (inr f.1), f.2))
       ],
-      λ h. let f = (in_map couple (ps ++ cs) z).0 h in all.1 (elim ((in_append f.0 ps cs).0 f.1) [
-        | inl k ↦ inl (m.1 ((in_map couple ps z).1 (f.0, k, f.2)))
-        | inr k ↦ inr ((in_map couple cs z).1 (f.0, k, f.2))
+      λ h. let f = (in_map couple z (ps ++ cs)).0 h in all.1 (elim ((in_append f.0 ps cs).0 f.1) [
+        | inl k ↦ inl (m.1 ((in_map couple z ps).1 (f.0, k, f.2)))
+        | inr k ↦ inr ((in_map couple z cs).1 (f.0, k, f.2))
       ]),
     )
 
@@ -92,23 +92,27 @@ pub step_closure : (s more : Value) → IsRelation s → set_with (elements s ++
 step_closure s more rel e =
     let parts = made_parts (squared s) more (sym (doubled_row s rel) ∙ e) in
     same_couples (from_one (couples more)) (from_one (couples s)) (λ p.
-      let left = in_from_one (couples more) p.0 p.1 in
-      let right = in_from_one (couples s) p.0 p.1 in
-      let mid = square_reaches (couples s) (couples more) (λ x y.
-        let m = parts (x, y) in
-        let n = in_squared s x y in
-        (λ h. n.0 (m.0 h), λ h. m.1 (n.1 h))) p.0 p.1 in
-      (λ h. right.1 (mid.0 (left.0 h)), λ h. left.1 (mid.1 (right.0 h))))
+    let left = in_from_one (couples more) p.0 p.1 in
+    let right = in_from_one (couples s) p.0 p.1 in
+    let mid = square_reaches (couples s) (couples more) (λ x y.
+    let m = parts (x, y) in
+    let n = in_squared s x y in
+    (λ h. n.0 (m.0 h), λ h. m.1 (n.1 h))) p.0 p.1 in
+    (λ h. right.1 (mid.0 (left.0 h)), λ h. left.1 (mid.1 (right.0 h))))
 
 -- all that the step lists is in the closure
 pub step_within : (s : Value) → IsRelation s → (z : Value) → In z (elements s ++ compose_members s s) → In z (closure1_members s)
 step_within s rel z h =
-    let k = (in_map couple (squared s) z).0 ((doubled_members s rel z).0 h) in
-    (in_map couple (from_one (couples s)) z).1 (k.0, (in_from_one (couples s) k.0.0 k.0.1).1 (elim ((in_squared s k.0.0 k.0.1).0 k.1) [
-      | inl m ↦ reaches_first (couples s) k.0.0 k.0.1 m
-      | inr m ↦ (let c = (in_composed (couples s) (couples s) k.0.0 k.0.1).0 m in
-          reaches_on (couples s) k.0.0 c.0 k.0.1 (reaches_first (couples s) k.0.0 c.0 c.1) (reaches_first (couples s) c.0 k.0.1 c.2))
-    ]), k.2)
+    let k = (in_map couple z (squared s)).0 ((doubled_members s rel z).0 h) in
+    (in_map couple z (from_one (couples s))).1 (
+      k.0,
+      (in_from_one (couples s) k.0.0 k.0.1).1 (elim ((in_squared s k.0.0 k.0.1).0 k.1) [
+        | inl m ↦ reaches_first (couples s) k.0.0 k.0.1 m
+        | inr m ↦ (let c = (in_composed (couples s) (couples s) k.0.0 k.0.1).0 m in
+            reaches_on (couples s) k.0.0 c.0 k.0.1 (reaches_first (couples s) k.0.0 c.0 c.1) (reaches_first (couples s) c.0 k.0.1 c.2))
+      ]),
+      k.2,
+    )
 
 pub square_within : (s : Value) → (z : Value) → In z (compose_members s s) → In z (elements s ++ compose_members s s)
 square_within s z h = (in_append z (elements s) (compose_members s s)).1 (inr h)
@@ -155,12 +159,12 @@ pub grown_whole : (s more : Value) → IsKept s → IsRelation s → set_with (e
 grown_whole s more k rel e l =
     let back = as_long (elements s) (elements more) (elements_ascend s k.value) (grows s more e) (omega arith) in
     let closed : Within (composed (couples s) (couples s)) (couples s) = λ x y m.
-      (in_couples (elements s) (x, y)).1 (back (Pair x y) ((set_with_members (elements s ++ compose_members s s) more e (Pair x y)).1
-        (square_within s (Pair x y) ((in_couple_map (composed (couples s) (couples s)) (x, y)).1 m)))) in
+    (in_couples (elements s) (x, y)).1 (back (Pair x y) ((set_with_members (elements s ++ compose_members s s) more e (Pair x y)).1
+    (square_within s (Pair x y) ((in_couple_map (composed (couples s) (couples s)) (x, y)).1 m)))) in
     let same : SameMembers (closure1_members s) (elements s ++ compose_members s s) = λ z. (
-      λ h. let f = (in_map couple (from_one (couples s)) z).0 h in
-          (in_append z (elements s) (compose_members s s)).1 (inl ((relation_members s rel z).1 ((in_map couple (couples s) z).1
-            (f.0, closed_reaches (couples s) closed f.0.0 f.0.1 ((in_from_one (couples s) f.0.0 f.0.1).0 f.1), f.2)))),
+      λ h. let f = (in_map couple z (from_one (couples s))).0 h in
+          (in_append z (elements s) (compose_members s s)).1 (inl ((relation_members s rel z).1 ((in_map couple z (couples s)).1
+          (f.0, closed_reaches (couples s) closed f.0.0 f.0.1 ((in_from_one (couples s) f.0.0 f.0.1).0 f.1), f.2)))),
       step_within s rel z,
     ) in
     set_with_same (closure1_members s) (elements s ++ compose_members s s) same ∙ e
@@ -207,10 +211,6 @@ fault_of_answer : (xs : List Value) (f : OpFault) → Answers (set_with xs) (Err
 fault_of_answer xs (Fault k) a = a
 fault_of_answer xs Memory a = a
 
-answer_of_fault : (xs : List Value) (f : OpFault) → FaultOf (set_with xs) f → Answers (set_with xs) (Err f)
-answer_of_fault xs (Fault k) a = a
-answer_of_fault xs Memory a = a
-
 -- a fault at part of the members is that of all
 pub part_fault : (xs ys : List Value) (f : OpFault) → ((z : Value) → In z xs → In z ys) → Answers (set_with xs) (Err f) → Answers (set_with ys) (Err f)
 part_fault xs ys f h a = answer_of_fault ys f (fault_of_more xs ys f h (fault_of_answer xs f a))
@@ -228,22 +228,22 @@ pub alone_kept : (r v : Value) → IsKept r → set_with (map couple (couples r)
 alone_kept r v k e = set_with_kept (map couple (couples r)) v (couple_map_values (couples r) (couples_values r k.value)) e
 
 pub alone_within : (r z : Value) → In z (map couple (couples r)) → In z (closure1_members r)
-alone_within r z h = let k = (in_map couple (couples r) z).0 h in
-    (in_map couple (from_one (couples r)) z).1 (k.0, (in_from_one (couples r) k.0.0 k.0.1).1 (reaches_first (couples r) k.0.0 k.0.1 k.1), k.2)
+alone_within r z h = let k = (in_map couple z (couples r)).0 h in
+    (in_map couple z (from_one (couples r))).1 (k.0, (in_from_one (couples r) k.0.0 k.0.1).1 (reaches_first (couples r) k.0.0 k.0.1 k.1), k.2)
 
 -- ---- the laws
 
 field_values : (ps : Parts) → PartsAreValues ps → (w : Value) → In w (field ps) → IsValue w
 field_values ps h w m = elim ((in_append w (map (λ (q : Value × Value). q.0) ps) (map (λ (q : Value × Value). q.1) ps)).0 m) [
-  | inl f ↦ (let k = (in_map (λ (q : Value × Value). q.0) ps w).0 f in subst IsValue (sym k.2) (h k.0 k.1).0)
-  | inr f ↦ (let k = (in_map (λ (q : Value × Value). q.1) ps w).0 f in subst IsValue (sym k.2) (h k.0 k.1).1)
+  | inl f ↦ (let k = (in_map (λ (q : Value × Value). q.0) w ps).0 f in subst IsValue (sym k.2) (h k.0 k.1).0)
+  | inr f ↦ (let k = (in_map (λ (q : Value × Value). q.1) w ps).0 f in subst IsValue (sym k.2) (h k.0 k.1).1)
 ]
 
 twin_values : (p : Value × Value) (w : Value) → p ≡ (w, w) → IsValue w → IsValue p.0 × IsValue p.1
 twin_values p w e v = (subst IsValue (sym (ap (λ q. q.0) e)) v, subst IsValue (sym (ap (λ q. q.1) e)) v)
 
 iterated_values : (ps : Parts) → PartsAreValues ps → (n : ℕ) → PartsAreValues (iterated ps n)
-iterated_values ps h zero = λ p m. let k = (in_map (λ (w : Value). (w, w)) (field ps) p).0 m in twin_values p k.0 k.2 (field_values ps h k.0 k.1)
+iterated_values ps h zero = λ p m. let k = (in_map (λ (w : Value). (w, w)) p (field ps)).0 m in twin_values p k.0 k.2 (field_values ps h k.0 k.1)
 iterated_values ps h (suc n) = composed_values (iterated ps n) ps (iterated_values ps h n) h
 
 pub iterated_are_values : (r : Value) → IsValue r → (n : ℕ) → AllByRecursion IsValue (map couple (iterated (couples r) n))
@@ -297,29 +297,27 @@ with_standing_members r ways e z =
     let all = in_append z (elements ways) (set_of value_cmp (map couple (iterated (couples r) 0))) in
     let w = set_with_members (closure1_members r) ways e z in
     let o = in_set_of value_cmp value_total value_same z (map couple (iterated (couples r) 0)) in
-    let whole = in_map couple (from_none (couples r)) z in
-    (
+    let whole = in_map couple z (from_none (couples r)) in (
       λ h. elim (all.0 h) [
-        | inl k ↦ (let f = (in_map couple (from_one (couples r)) z).0 (w.0 k) in whole.1 (f.0, (in_from_none (couples r) f.0.0 f.0.1).1 (inr ((in_from_one (couples r) f.0.0 f.0.1).0 f.1)), f.2))
-        | inr k ↦ (let f = (in_map couple (iterated (couples r) 0) z).0 (o.0 k) in whole.1 (f.0, (in_from_none (couples r) f.0.0 f.0.1).1 (inl f.1), f.2))
+        | inl k ↦ (let f = (in_map couple z (from_one (couples r))).0 (w.0 k) in whole.1 (f.0, (in_from_none (couples r) f.0.0 f.0.1).1 (inr ((in_from_one (couples r) f.0.0 f.0.1).0 f.1)), f.2))
+        | inr k ↦ (let f = (in_map couple z (iterated (couples r) 0)).0 (o.0 k) in whole.1 (f.0, (in_from_none (couples r) f.0.0 f.0.1).1 (inl f.1), f.2))
       ],
       λ h. let f = whole.0 h in all.1 (elim ((in_from_none (couples r) f.0.0 f.0.1).0 f.1) [
-        | inl k ↦ inr (o.1 ((in_map couple (iterated (couples r) 0) z).1 (f.0, k, f.2)))
-        | inr k ↦ inl (w.1 ((in_map couple (from_one (couples r)) z).1 (f.0, (in_from_one (couples r) f.0.0 f.0.1).1 k, f.2)))
+        | inl k ↦ inr (o.1 ((in_map couple z (iterated (couples r) 0)).1 (f.0, k, f.2)))
+        | inr k ↦ inl (w.1 ((in_map couple z (from_one (couples r))).1 (f.0, (in_from_one (couples r) f.0.0 f.0.1).1 k, f.2)))
       ]),
     )
 
 pub closure1_within : (r z : Value) → In z (closure1_members r) → In z (closure_members r)
-closure1_within r z h = let f = (in_map couple (from_one (couples r)) z).0 h in
-    (in_map couple (from_none (couples r)) z).1 (f.0, (in_from_none (couples r) f.0.0 f.0.1).1 (inr ((in_from_one (couples r) f.0.0 f.0.1).0 f.1)), f.2)
+closure1_within r z h = let f = (in_map couple z (from_one (couples r))).0 h in
+    (in_map couple z (from_none (couples r))).1 (f.0, (in_from_none (couples r) f.0.0 f.0.1).1 (inr ((in_from_one (couples r) f.0.0 f.0.1).0 f.1)), f.2)
 
 -- the relation and its square, united
 pub doubled_is : (s square : Value) (xs ys : List Value) (r : Result Value OpFault) → compose_row s s ≡ Ok square → xs ≡ elements s → ys ≡ elements square → Answers (set_with (xs ++ ys)) r → Answers (set_with (elements s ++ compose_members s s)) r
 doubled_is s square xs ys r e f g a = answers_same (xs ++ ys) (elements s ++ compose_members s s) r (λ z.
     let left = in_append z xs ys in
     let right = in_append z (elements s) (compose_members s s) in
-    let m = set_with_members (compose_members s s) square e z in
-    (
+    let m = set_with_members (compose_members s s) square e z in (
       λ h. right.1 (elim (left.0 h) [ inl k ↦ inl (subst (In z) f k) | inr k ↦ inr (m.0 (subst (In z) g k)) ]),
       λ h. left.1 (elim (right.0 h) [ inl k ↦ inl (subst (In z) (sym f) k) | inr k ↦ inr (subst (In z) (sym g) (m.1 k)) ]),
     )) a

@@ -1,24 +1,23 @@
 -- The image of a value under a function, and the images of a set.
-use Rattle.std.proofs.Common.{◌≡◌, ◌⊎◌, ◌↔◌, ◌<◌, ◌≤◌, ◌≢◌, ℕ, zero, suc, Bool, true, false, cond, List, [], ◌∷◌, ◌++◌, map, length, Option, Some, None, Result, Ok, Err, arith, refl, sym, ap, ◌∙◌, subst, inl, inr}
+use Rattle.std.proofs.Common.{◌≡◌, ◌⊎◌, ◌↔◌, ◌<◌, ◌≤◌, ◌≢◌, ℕ, zero, suc, Bool, true, false, cond, List, [], ◌∷◌, map, length, Result, Ok, Err, arith, refl, sym, ap, ◌∙◌, subst, inl, inr}
 use Rattle.std.specs.Prelude.{IfOk}
 use Rattle.std.specs.List.{filter, flat_map, cons_option}
 use Rattle.std.specs.Ordering.{is_eq}
 use Rattle.ascending.specs.Ascending.{In}
 use Rattle.b_values.specs.SameLaws.{value_decides}
 use Rattle.b_values.specs.Values.{IsKept, elements, same_value, value_cmp}
-use Rattle.b_values.specs.declared.values.FaultKind.{FaultKind}
 use Rattle.b_values.specs.declared.values.FaultKind.TheVariants.{IllDefined}
 use Rattle.b_values.specs.declared.values.Value.{Value, out-Value}
 use Rattle.b_values.specs.declared.values.Value.TheOpen.{Value-F}
 use Rattle.set_making.specs.declared.OpFault.{OpFault}
-use Rattle.set_making.specs.declared.OpFault.TheVariants.{Fault, Memory}
 use Rattle.set_making.specs.Making.{Answers}
 use Rattle.set_making.specs.MakingLaws.{member_kept, parts_kept}
-use Rattle.b_relations.specs.Listed.{SameMembers, in_map, in_filter, in_flat_map}
+use Rattle.set_making.specs.ListMembers.{in_map, in_filter, in_flat_map}
+use Rattle.b_relations.specs.Listed.{SameMembers}
 use Rattle.b_relations.specs.Parts.{begins_with, first_cmp}
 use Rattle.b_relations.specs.Relations.{Relates, parts_of, couple, couples, couples_in, only, apply_row, image_members}
 use Rattle.b_relations.proofs.RowLaws.{related, in_image}
-use Rattle.b_relations.proofs.Searching.{group_parts}
+use Rattle.b_relations.proofs.Searching.{group_parts, of_cond}
 
 -- ---- the only image
 
@@ -31,10 +30,10 @@ one_image f x m members group e g h = ap (λ l. only (map (λ p. p.1) l)) (ap co
 
 in_images : (f x y : Value) → In y (images_of f x) ↔ Relates f x y
 in_images f x y = (
-  λ h. let k = (in_map (λ (p : Value × Value). p.1) _ y).0 h in
-      let m = (in_filter (λ (p : Value × Value). same_value p.0 x) (couples f) k.0).0 k.1 in
+  λ h. let k = (in_map (λ (p : Value × Value). p.1) y _).0 h in
+      let m = (in_filter (λ (p : Value × Value). same_value p.0 x) k.0 (couples f)).0 k.1 in
       subst (λ w. Relates f x w) (sym k.2) (subst (λ w. Relates f w k.0.1) ((value_decides k.0.0 x).0 m.1) ((related f k.0.0 k.0.1).0 m.0)),
-  λ h. (in_map (λ (p : Value × Value). p.1) _ y).1 ((x, y), (in_filter (λ (p : Value × Value). same_value p.0 x) (couples f) (x, y)).1 ((related f x y).1 h, (value_decides x x).1 refl), refl),
+  λ h. (in_map (λ (p : Value × Value). p.1) y _).1 ((x, y), (in_filter (λ (p : Value × Value). same_value p.0 x) (x, y) (couples f)).1 ((related f x y).1 h, (value_decides x x).1 refl), refl),
 )
 
 only_is : (ys : List Value) (v : Value) → only ys ≡ Ok v → ys ≡ v ∷ []
@@ -44,8 +43,7 @@ only_is (y ∷ z ∷ ys) v e = cc
 
 only_image : (f x v : Value) → apply_row f x ≡ Ok v → (y : Value) → Relates f x y ↔ (y ≡ v)
 only_image f x v a y =
-    let one = only_is (images_of f x) v a in
-    (
+    let one = only_is (images_of f x) v a in (
       λ h. elim (subst (λ l. In y l) one ((in_images f x y).1 h)) [ inl e ↦ e | inr e ↦ absurd e ],
       λ e. (in_images f x y).0 (subst (λ l. In y l) (sym one) (inl e)),
     )
@@ -73,10 +71,6 @@ length_step x m (Value-F.Pair a b) more ps e = go (is_eq (value_cmp a x))
     go false = e
 length_step x m (Value-F.Set xs) more ps e = e
 
-of_cond : (b : Bool) (f : List Value → List (Value × Value)) (xs ys : List Value) → f (cond b xs ys) ≡ cond b (f xs) (f ys)
-of_cond true f xs ys = refl
-of_cond false f xs ys = refl
-
 -- each member of the group is a couple
 group_length : (x : Value) (xs : List Value) → length (couples_in (filter (begins_with x) xs)) ≡ length (filter (begins_with x) xs)
 group_length x [] = refl
@@ -93,7 +87,7 @@ pub no_image : (f x : Value) (members group : List Value) → members ≡ elemen
 no_image f x members group e g h =
     let whole : group ≡ filter (begins_with x) (elements f) = g ∙ ap (filter (begins_with x)) e in
     let same : length (filter (λ p. same_value p.0 x) (couples f)) ≡ length group =
-        ap length (sym (group_parts x (elements f))) ∙ group_length x (elements f) ∙ ap length (sym whole) in
+    ap length (sym (group_parts x (elements f))) ∙ group_length x (elements f) ∙ ap length (sym whole) in
     none_only (filter (λ p. same_value p.0 x) (couples f)) (elim h [ inl l ↦ inl (omega arith) | inr l ↦ inr (omega arith) ])
 
 -- ---- the images of a set
@@ -109,8 +103,7 @@ in_group r x y = subst (λ l. In y (map (λ p. p.1) l) ↔ Relates r x y) (sym (
 pub images_same : (r s : Value) → SameMembers (found_images (elements r) (elements s)) (image_members r s)
 images_same r s y =
     let row = in_image r s y in
-    let all = in_flat_map (λ x. map (λ p. p.1) (couples_in (filter (begins_with x) (elements r)))) (elements s) y in
-    (
+    let all = in_flat_map (λ x. map (λ p. p.1) (couples_in (filter (begins_with x) (elements r)))) y (elements s) in (
       λ h. let k = all.0 h in row.1 (k.0, k.1, (in_group r k.0 y).0 k.2),
       λ h. let k = row.0 h in all.1 (k.0, k.1, (in_group r k.0 y).1 k.2),
     )

@@ -1,5 +1,5 @@
 -- Iterates by squaring, and compositions that are gathered with doubles taken out.
-use Rattle.std.proofs.Common.{◌≡◌, ◌⊎◌, ◌↔◌, ◌+◌, ◌*◌, ◌/◌, ◌%◌, ◌<◌, ◌≤◌, ℕ, ℤ, pos, negsuc, zero, suc, List, [], ◌∷◌, ◌++◌, map, length, get_or, take, Result, Ok, Err, Option, Some, None, arith, append-nil, refl, sym, ap, ◌∙◌, subst, inl, inr}
+use Rattle.std.proofs.Common.{◌≡◌, ◌↔◌, ◌+◌, ◌/◌, ◌%◌, ◌<◌, ◌≤◌, ℕ, pos, negsuc, zero, suc, List, [], ◌∷◌, ◌++◌, map, length, get_or, take, Result, Ok, Err, arith, append-nil, refl, sym, ap, ◌∙◌, subst, inl, inr}
 use Rattle.std.specs.Prelude.{IfOk}
 use Rattle.std.specs.List.{flat_map, filter, cons_option}
 use Rattle.std.specs.declared.alloc.AllocError.{AllocError}
@@ -9,10 +9,8 @@ use Rattle.ascending.specs.Members.{in_append}
 use Rattle.ascending.specs.AscendingLaws.{in_set_of, set_of_same}
 use Rattle.b_values.specs.OrderLaws.{value_total, value_same}
 use Rattle.b_values.specs.Values.{IsKept, elements, value_cmp, same_value}
-use Rattle.b_values.specs.declared.values.FaultKind.{FaultKind}
 use Rattle.b_values.specs.declared.values.FaultKind.TheVariants.{IllDefined}
 use Rattle.b_values.specs.declared.values.Value.{Value, out-Value}
-use Rattle.b_values.specs.declared.values.Value.TheOpen.{Value-F}
 use Rattle.b_values.specs.declared.values.Value.TheVariants.{Int, Pair, outs-Int}
 use Rattle.set_making.specs.declared.OpFault.{OpFault}
 use Rattle.set_making.specs.Making.{set_with, Answers}
@@ -20,7 +18,8 @@ use Rattle.set_making.specs.MakingLaws.{answers_kept}
 use Rattle.b_relations.specs.CoupleLaws.{in_couples, in_couple_map, parts-Pair}
 use Rattle.b_relations.specs.Joining.{joined, joined_to}
 use Rattle.b_relations.specs.declared.joining.Join.TheVariants.{Compose}
-use Rattle.b_relations.specs.Listed.{SameMembers, in_map}
+use Rattle.set_making.specs.ListMembers.{in_map}
+use Rattle.b_relations.specs.Listed.{SameMembers}
 use Rattle.b_relations.specs.Relations.{Relates, Leads, parts, couple, couples, couples_in, composed, field, iterated, iterate_layer, iterate_row}
 use Rattle.b_relations.proofs.ClosureLaws.{same_couples, iterated_are_values}
 use Rattle.b_relations.proofs.Gathers.{flat_at, by_members}
@@ -29,7 +28,6 @@ use Rattle.b_relations.proofs.Paths.{iterated_add, iterated_split, iterated_next
 use Rattle.b_relations.proofs.Reaching.{Parts, leads}
 use Rattle.b_relations.proofs.Results.{answers_relation}
 use Rattle.b_relations.proofs.RowLaws.{in_composed}
-use Rattle.b_relations.proofs.Searching.{group_parts}
 
 -- ---- lists with the same members
 
@@ -98,15 +96,14 @@ pub standing_made : (ps : Parts) (found stands pairs items : List Value) → fou
     → items ≡ set_of value_cmp (map couple (iterated ps 0))
 standing_made ps found stands pairs items e f g h =
     set_same pairs (map couple (iterated ps 0)) items h (λ z.
-      let left = in_map (λ (x : Value). Pair x x) stands z in
-      let outer = in_map couple (iterated ps 0) z in
-      let m = set_members found stands f in
-      (
-        λ k. let w = left.0 (subst (In z) g k) in outer.1 ((w.0, w.0), (in_map (λ (x : Value). (x, x)) (field ps) (w.0, w.0)).1 (w.0, subst (In w.0) e ((m w.0).0 w.1), refl), w.2),
-        λ k. let w = outer.0 k in
-            let v = (in_map (λ (x : Value). (x, x)) (field ps) w.0).0 w.1 in
-            subst (In z) (sym g) (left.1 (v.0, (m v.0).1 (subst (In v.0) (sym e) v.1), w.2 ∙ ap couple v.2)),
-      ))
+    let left = in_map (λ (x : Value). Pair x x) z stands in
+    let outer = in_map couple z (iterated ps 0) in
+    let m = set_members found stands f in (
+      λ k. let w = left.0 (subst (In z) g k) in outer.1 ((w.0, w.0), (in_map (λ (x : Value). (x, x)) (w.0, w.0) (field ps)).1 (w.0, subst (In w.0) e ((m w.0).0 w.1), refl), w.2),
+      λ k. let w = outer.0 k in
+          let v = (in_map (λ (x : Value). (x, x)) w.0 (field ps)).0 w.1 in
+          subst (In z) (sym g) (left.1 (v.0, (m v.0).1 (subst (In v.0) (sym e) v.1), w.2 ∙ ap couple v.2)),
+    ))
 
 -- ---- gathering compositions
 
@@ -128,13 +125,12 @@ pub compose_step : (r s : List Value) (i : ℕ) (m : Value) (found pushed new : 
 compose_step r s i m found pushed new h e f g k =
     let F : Value → List Value = λ m. joined Compose (couples_in (m ∷ [])) (couples_in s) in
     subst (SameMembers new) (sym (flat_at F r i m h e)) (λ z.
-      let outer = k z in
-      let both = in_append z found (F m) in
-      let whole = in_append z (flat_map F (take i r)) (F m) in
-      (
-        λ n. whole.1 (elim (both.0 (subst (In z) g (outer.0 n))) [ inl a ↦ inl ((f z).0 a) | inr b ↦ inr b ]),
-        λ n. outer.1 (subst (In z) (sym g) (both.1 (elim (whole.0 n) [ inl a ↦ inl ((f z).1 a) | inr b ↦ inr b ]))),
-      ))
+    let outer = k z in
+    let both = in_append z found (F m) in
+    let whole = in_append z (flat_map F (take i r)) (F m) in (
+      λ n. whole.1 (elim (both.0 (subst (In z) g (outer.0 n))) [ inl a ↦ inl ((f z).0 a) | inr b ↦ inr b ]),
+      λ n. outer.1 (subst (In z) (sym g) (both.1 (elim (whole.0 n) [ inl a ↦ inl ((f z).1 a) | inr b ↦ inr b ]))),
+    ))
 
 -- a loop's end
 pub compose_end : (r s : List Value) (i : ℕ) (found items : List Value) → length r ≤ i → SameMembers found (flat_map (λ m. joined Compose (couples_in (m ∷ [])) (couples_in s)) (take i r)) → items ≡ set_of value_cmp found
@@ -142,7 +138,7 @@ pub compose_end : (r s : List Value) (i : ℕ) (found items : List Value) → le
 compose_end r s i found items h f e =
     let F : Value → List Value = λ m. joined Compose (couples_in (m ∷ [])) (couples_in s) in
     let whole : flat_map F (take i r) ≡ map couple (composed (couples_in r) (couples_in s)) =
-        ap (flat_map F) (take_all i r h) ∙ by_members (joined_to Compose (couples_in s)) r ∙ composed_values (couples_in r) (couples_in s) in
+    ap (flat_map F) (take_all i r h) ∙ by_members (joined_to Compose (couples_in s)) r ∙ composed_values (couples_in r) (couples_in s) in
     set_same found (map couple (composed (couples_in r) (couples_in s))) items e (subst (SameMembers found) whole f)
 
 -- ---- the row
@@ -183,6 +179,6 @@ pub odd_steps : (relation : List Value) (n : ℕ) (half xs ys whole zs : List Va
 odd_steps relation n half xs ys whole zs result r e f g h k =
     if_ok (λ items. items ≡ set_of value_cmp (map couple (composed (couples_in zs) (couples_in relation)))) (λ items. items ≡ set_of value_cmp (map couple (iterated (couples_in relation) n)))
     (λ items m. odd_times (couples_in relation) n half whole items r e
-        (h ∙ ap (λ l. set_of value_cmp (map couple (composed (couples_in l) (couples_in ys)))) f ∙ ap (λ l. set_of value_cmp (map couple (composed (couples_in half) (couples_in l)))) g)
-        (m ∙ ap (λ l. set_of value_cmp (map couple (composed (couples_in l) (couples_in relation)))) k))
+    (h ∙ ap (λ l. set_of value_cmp (map couple (composed (couples_in l) (couples_in ys)))) f ∙ ap (λ l. set_of value_cmp (map couple (composed (couples_in half) (couples_in l)))) g)
+    (m ∙ ap (λ l. set_of value_cmp (map couple (composed (couples_in l) (couples_in relation)))) k))
     result

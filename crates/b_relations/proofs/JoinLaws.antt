@@ -1,17 +1,16 @@
 -- The loops that join couples give the members of the rows.
-use Rattle.std.proofs.Common.{◌≡◌, ◌↔◌, ◌≤◌, ◌<◌, ℕ, Bool, true, List, [], ◌∷◌, ◌++◌, map, length, take, Option, Some, None, Result, Ok, Err, refl, sym, ap, ◌∙◌, subst}
+use Rattle.std.proofs.Common.{◌≡◌, ◌↔◌, ◌≤◌, ℕ, List, [], ◌∷◌, ◌++◌, map, length, take, Result, Ok, refl, sym, ap, ◌∙◌, subst}
 use Rattle.std.specs.Prelude.{OnOk, IfErr, IfOk}
 use Rattle.std.specs.List.{filter, flat_map, cons_option}
 use Rattle.std.proofs.lemmas.List.{take_all}
 use Rattle.ascending.specs.Ascending.{In, insert}
 use Rattle.b_values.specs.Values.{elements, same_value, value_cmp}
-use Rattle.b_values.specs.declared.values.FaultKind.{FaultKind}
 use Rattle.b_values.specs.declared.values.Value.{Value}
 use Rattle.b_values.specs.declared.values.Value.TheVariants.{Pair}
 use Rattle.set_making.specs.declared.OpFault.{OpFault}
 use Rattle.set_making.specs.Making.{set_with, Answers, FaultOf}
 use Rattle.b_relations.specs.CoupleLaws.{parts-Pair}
-use Rattle.b_relations.specs.Joining.{Adds, meets, made, joined, projection}
+use Rattle.b_relations.specs.Joining.{Adds, made, joined, projection}
 use Rattle.b_relations.specs.declared.joining.Join.{Join}
 use Rattle.b_relations.specs.declared.joining.Join.TheVariants.{Compose, Direct, Parallel}
 use Rattle.b_relations.specs.declared.walking.Side.{Side}
@@ -65,7 +64,7 @@ direct_is r s ms ns result e f a = subst (λ l. Answers (set_with l) result) (at
 pub parallel_is : (r s : Value) (ms ns : List Value) (result : Result Value OpFault) → ms ≡ elements r → ns ≡ elements s → Answers (set_with (joined Parallel (couples_in ms) (couples_in ns))) result → Answers (parallel_row r s) result
 parallel_is r s ms ns result e f a =
     subst (λ l. Answers (set_with l) result)
-        (at_members Parallel r s ms ns e f ∙ all_joined (λ p q. Pair (Pair p.0 q.0) (Pair p.1 q.1)) (couples_in (elements r)) (couples_in (elements s))) a
+    (at_members Parallel r s ms ns e f ∙ all_joined (λ p q. Pair (Pair p.0 q.0) (Pair p.1 q.1)) (couples_in (elements r)) (couples_in (elements s))) a
 
 products : (side : Side) (s t : Value) (xs ys : List Value) → xs ≡ elements s → ys ≡ elements t → flat_map (λ x. map (projection side x) ys) xs ≡ flat_map (λ x. map (projection side x) (elements t)) (elements s)
 products side s t xs ys e f = rw (e, f) refl

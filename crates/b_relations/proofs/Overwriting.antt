@@ -1,9 +1,9 @@
 -- The couples that an overriding leaves, and those that it brings.
-use Rattle.std.proofs.Common.{◌≡◌, ◌↔◌, Bool, true, false, not, List, [], ◌∷◌, ◌++◌, map, Result, refl, sym, ap, ◌∙◌, subst}
+use Rattle.std.proofs.Common.{◌≡◌, false, not, List, [], ◌++◌, map, Result, sym, ap, ◌∙◌, subst}
 use Rattle.std.specs.Prelude.{IfOk}
 use Rattle.std.specs.declared.alloc.AllocError.{AllocError}
 use Rattle.std.specs.List.{filter}
-use Rattle.ascending.specs.Ascending.{In, set_of}
+use Rattle.ascending.specs.Ascending.{set_of}
 use Rattle.ascending.specs.AscendingLaws.{in_set_of}
 use Rattle.b_values.specs.OrderLaws.{value_total, value_same}
 use Rattle.b_values.specs.Values.{elements, value_cmp}
@@ -30,7 +30,7 @@ pub old_couples : (r s : Value) (firsts : List Value) → firsts ≡ set_of valu
 old_couples r s firsts e =
     chosen_parts (keeps Left firsts false) (elements r)
     ∙ ap (map couple) (filter_same (keeps Left firsts false) (λ p. not (is_among (dom_members s) p.0))
-        (λ p. ap not (ap (λ l. is_among l p.0) e ∙ among_same (set_of value_cmp (dom_members s)) (dom_members s) (λ z. in_set_of value_cmp value_total value_same z (dom_members s)) p.0)) (couples r))
+    (λ p. ap not (ap (λ l. is_among l p.0) e ∙ among_same (set_of value_cmp (dom_members s)) (dom_members s) (λ z. in_set_of value_cmp value_total value_same z (dom_members s)) p.0)) (couples r))
 
 -- both, merged
 pub both_merged : (r s : Value) (old new : List Value) (result : Result (List Value) AllocError) → old ≡ map couple (filter (λ p. not (is_among (dom_members s) p.0)) (couples r)) → new ≡ map couple (couples s)

@@ -1,7 +1,7 @@
 -- Iterates of a relation: how they add up, and that each couple of one is in an iterate up to the number of couples.
 use Rattle.std.proofs.Common.{◌≡◌, ◌⊎◌, ◌↔◌, ◌+◌, ◌<◌, ◌≤◌, ℕ, zero, suc, Bool, true, false, ◌||◌, List, [], ◌∷◌, ◌++◌, map, length, arith, refl, sym, ap, ◌∙◌, subst, inl, inr}
-use Rattle.std.specs.List.{AllByRecursion, IsDistinct, flat_map, list_any, range_with_len}
-use Rattle.std.specs.Cmp.{IsEquivalence, eq_by_cmp_equiv}
+use Rattle.std.specs.List.{AllByRecursion, IsDistinct, list_any}
+use Rattle.std.specs.Cmp.{eq_by_cmp_equiv}
 use Rattle.std.proofs.lemmas.Map.Made.{length-le_from_is_member}
 use Rattle.ascending.specs.Ascending.{In}
 use Rattle.ascending.specs.Members.{in_append}
@@ -9,9 +9,9 @@ use Rattle.b_values.specs.OrderLaws.{value_total}
 use Rattle.b_values.specs.SameLaws.{value_decides}
 use Rattle.b_values.specs.Values.{same_value}
 use Rattle.b_values.specs.declared.values.Value.{Value}
-use Rattle.b_relations.specs.Listed.{in_map, in_flat_map}
+use Rattle.set_making.specs.ListMembers.{in_map}
 use Rattle.b_relations.specs.CoupleLaws.{same_parts, in_couple_map}
-use Rattle.b_relations.specs.Relations.{couple, composed, field, iterated}
+use Rattle.b_relations.specs.Relations.{couple, field, iterated}
 use Rattle.b_relations.proofs.RowLaws.{in_composed}
 
 -- ---- what stands in a couple
@@ -19,9 +19,8 @@ use Rattle.b_relations.proofs.RowLaws.{in_composed}
 pub in_field : (ps : List (Value × Value)) (x : Value) → In x (field ps) ↔ (((y : Value) × In (x, y) ps) ⊎ ((y : Value) × In (y, x) ps))
 in_field ps x =
     let all = in_append x (map (λ (p : Value × Value). p.0) ps) (map (λ (p : Value × Value). p.1) ps) in
-    let left = in_map (λ (p : Value × Value). p.0) ps x in
-    let right = in_map (λ (p : Value × Value). p.1) ps x in
-    (
+    let left = in_map (λ (p : Value × Value). p.0) x ps in
+    let right = in_map (λ (p : Value × Value). p.1) x ps in (
       λ h. elim (all.0 h) [
         | inl m ↦ (let k = left.0 m in inl (k.0.1, subst (λ w. In (w, k.0.1) ps) (sym k.2) k.1))
         | inr m ↦ (let k = right.0 m in inr (k.0.0, subst (λ w. In (k.0.0, w) ps) (sym k.2) k.1))
@@ -39,8 +38,7 @@ second_in_field ps x y h = (in_field ps y).1 (inr (x, h))
 
 pub iterated_none : (ps : List (Value × Value)) (x z : Value) → In (x, z) (iterated ps 0) ↔ ((x ≡ z) × In x (field ps))
 iterated_none ps x z =
-    let all = in_map (λ (w : Value). (w, w)) (field ps) (x, z) in
-    (
+    let all = in_map (λ (w : Value). (w, w)) (x, z) (field ps) in (
       λ h. let k = all.0 h in
           let left : x ≡ k.0 = ap (λ p. p.0) k.2 in
           let right : z ≡ k.0 = ap (λ p. p.1) k.2 in
@@ -176,8 +174,8 @@ map_length f (x ∷ xs) = ap suc (map_length f xs)
 once_short : (ps cs : List (Value × Value)) → Once cs → ((d : Value × Value) → In d cs → In d ps) → length cs ≤ length ps
 once_short ps cs o f =
     let h = no_longer (map couple cs) (map couple ps) o (λ z m.
-        let k = (in_map couple cs z).0 m in
-        subst (λ w. In w (map couple ps)) (sym k.2) ((in_couple_map ps k.0).1 (f k.0 k.1))) in
+    let k = (in_map couple z cs).0 m in
+    subst (λ w. In w (map couple ps)) (sym k.2) ((in_couple_map ps k.0).1 (f k.0 k.1))) in
     omega (arith, h, map_length couple cs, map_length couple ps)
 
 -- some steps, at least one

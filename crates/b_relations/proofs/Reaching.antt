@@ -1,13 +1,12 @@
 -- What a relation reaches in some steps, and the laws of its closures.
-use Rattle.std.proofs.Common.{◌≡◌, ◌⊎◌, ◌↔◌, ◌+◌, ◌<◌, ◌≤◌, ℕ, zero, suc, List, [], ◌∷◌, ◌++◌, map, length, arith, refl, sym, ap, ◌∙◌, subst, inl, inr}
+use Rattle.std.proofs.Common.{◌≡◌, ◌⊎◌, ◌↔◌, ◌+◌, ◌<◌, ◌≤◌, ℕ, zero, suc, List, length, arith, refl, ap, subst, inl, inr}
 use Rattle.std.specs.List.{flat_map, range_with_len}
 use Rattle.ascending.specs.Ascending.{In}
-use Rattle.ascending.specs.Members.{in_append}
 use Rattle.b_values.specs.declared.values.Value.{Value}
 use Rattle.b_values.specs.declared.values.Value.TheVariants.{Pair}
-use Rattle.b_relations.specs.Listed.{SameMembers, in_map, in_flat_map}
+use Rattle.set_making.specs.ListMembers.{in_flat_map}
 use Rattle.b_relations.specs.CoupleLaws.{in_couple_map}
-use Rattle.b_relations.specs.Relations.{Relates, InDomain, InRange, Leads, couple, couples, composed, field, iterated, closure1_members, closure_members}
+use Rattle.b_relations.specs.Relations.{InDomain, InRange, Leads, couples, composed, field, iterated, closure1_members, closure_members}
 use Rattle.b_relations.proofs.RowLaws.{in_composed, related}
 use Rattle.b_relations.proofs.Paths.{Reaches, iterated_none, iterated_next, iterated_one, iterated_add, in_field, reached_soon}
 
@@ -23,8 +22,7 @@ Within ps qs = (x y : Value) → In (x, y) ps → In (x, y) qs
 in_range : (a n k : ℕ) → In k (range_with_len a n) ↔ ((a ≤ k) × (k < a + n))
 in_range a zero k = (λ h. absurd h, λ h. absurd (let l = h.0 in let m = h.1 in omega arith))
 in_range a (suc n) k =
-    let more = in_range (a + 1) n k in
-    (
+    let more = in_range (a + 1) n k in (
       λ h. elim h [ inl e ↦ (omega arith, omega arith) | inr m ↦ (let r = more.0 m in let l = r.0 in let u = r.1 in (omega arith, omega arith)) ],
       λ h. let l = h.0 in let u = h.1 in elim (eq_or_above a k l) [ inl e ↦ inl e | inr g ↦ inr (more.1 (omega arith, omega arith)) ],
     )
@@ -51,16 +49,14 @@ after_one (suc n) h = (n, refl)
 
 pub in_from_one : (ps : Parts) (x z : Value) → In (x, z) (from_one ps) ↔ Reaches ps x z
 in_from_one ps x z =
-    let all = in_flat_map (iterated ps) (range_with_len 1 (length ps)) (x, z) in
-    (
+    let all = in_flat_map (iterated ps) (x, z) (range_with_len 1 (length ps)) in (
       λ h. let k = all.0 h in let r = (in_range 1 (length ps) k.0).0 k.1 in let n = after_one k.0 r.0 in (n.0, subst (λ i. In (x, z) (iterated ps i)) n.1 k.2),
       λ h. let s = reached_soon ps x z h in let l = s.1 in all.1 (suc s.0, (in_range 1 (length ps) (suc s.0)).1 (omega arith, omega arith), s.2),
     )
 
 pub in_from_none : (ps : Parts) (x z : Value) → In (x, z) (from_none ps) ↔ (In (x, z) (iterated ps 0) ⊎ Reaches ps x z)
 in_from_none ps x z =
-    let all = in_flat_map (iterated ps) (range_with_len 0 (length ps + 1)) (x, z) in
-    (
+    let all = in_flat_map (iterated ps) (x, z) (range_with_len 0 (length ps + 1)) in (
       λ h. let k = all.0 h in cases k.0 k.2,
       λ h. elim h [
         | inl m ↦ all.1 (0, (in_range 0 (length ps + 1) 0).1 (omega arith, omega arith), m)
@@ -127,8 +123,7 @@ in_closure r x z =
 
 pub stands : (r x : Value) → In x (field (couples r)) ↔ (InDomain r x ⊎ InRange r x)
 stands r x =
-    let f = in_field (couples r) x in
-    (
+    let f = in_field (couples r) x in (
       λ h. elim (f.0 h) [ inl k ↦ inl (k.0, (related r x k.0).0 k.1) | inr k ↦ inr (k.0, (related r k.0 x).0 k.1) ],
       λ h. f.1 (elim h [ inl k ↦ inl (k.0, (related r x k.0).1 k.1) | inr k ↦ inr (k.0, (related r k.0 x).1 k.1) ]),
     )
@@ -139,8 +134,7 @@ leads r zero x z =
     let f = stands r x in
     (λ h. let k = all.0 h in (k.0, f.0 k.1), λ h. all.1 (h.0, f.1 h.1))
 leads r (suc n) x z =
-    let all = iterated_next (couples r) n x z in
-    (
+    let all = iterated_next (couples r) n x z in (
       λ h. let k = all.0 h in (k.0, (leads r n x k.0).0 k.1, (related r k.0 z).0 k.2),
       λ h. all.1 (h.0, (leads r n x h.0).1 h.1, (related r h.0 z).1 h.2),
     )

@@ -1,12 +1,11 @@
 -- What a call's answer says, from the row that it answers.
-use Rattle.std.proofs.Common.{◌≡◌, ◌↔◌, Bool, List, [], ◌∷◌, ◌++◌, length, map, Result, Ok, Err, Option, Some, None, refl, sym, ap, ◌∙◌, subst, arith, suc}
+use Rattle.std.proofs.Common.{◌≡◌, ◌↔◌, Bool, List, map, Result, Ok, Err, refl, sym, ◌∙◌, subst}
 use Rattle.std.specs.Prelude.{IfOk}
-use Rattle.std.specs.List.{filter, flat_map}
+use Rattle.std.specs.List.{filter}
 use Rattle.ascending.specs.Ascending.{In, IsAscending, set_of}
 use Rattle.ascending.specs.AscendingLaws.{set_of_ascends}
 use Rattle.b_values.specs.OrderLaws.{value_total, value_same}
-use Rattle.b_values.specs.Values.{elements, value_cmp, same_value}
-use Rattle.b_values.specs.declared.values.FaultKind.{FaultKind}
+use Rattle.b_values.specs.Values.{elements, value_cmp}
 use Rattle.b_values.specs.declared.values.Value.{Value}
 use Rattle.b_values.specs.declared.values.Value.TheVariants.{Pair}
 use Rattle.set_making.specs.declared.OpFault.{OpFault}

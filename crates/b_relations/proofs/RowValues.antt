@@ -1,17 +1,16 @@
 -- What the rows list are values, where the operands are.
-use Rattle.std.proofs.Common.{◌≡◌, ◌⊎◌, ◌↔◌, Bool, true, false, not, List, [], ◌∷◌, ◌++◌, map, refl, sym, ap, ◌∙◌, subst, inl, inr}
+use Rattle.std.proofs.Common.{Bool, not, List, ◌++◌, map, sym, subst, inl, inr}
 use Rattle.std.specs.List.{filter, flat_map, AllByRecursion}
 use Rattle.ascending.specs.Ascending.{In}
-use Rattle.ascending.specs.Members.{all_in, all_from, all_append, in_append}
-use Rattle.b_values.specs.SameLaws.{value_decides}
+use Rattle.ascending.specs.Members.{all_in, all_from, in_append}
 use Rattle.b_values.specs.ValueLaws.{elements_are_values, is_couple, couple_parts}
 use Rattle.b_values.specs.Values.{elements, same_value, IsValue}
 use Rattle.b_values.specs.declared.values.Value.{Value}
 use Rattle.b_values.specs.declared.values.Value.TheVariants.{Pair}
 use Rattle.set_making.specs.Making.{is_among}
-use Rattle.b_relations.specs.Listed.{in_map, in_filter, in_flat_map}
+use Rattle.set_making.specs.ListMembers.{in_map, in_filter, in_flat_map}
 use Rattle.b_relations.specs.CoupleLaws.{in_couples}
-use Rattle.b_relations.specs.Relations.{couple, couples, composed, dom_members, ran_members, converse_members, identity_members, image_members, dom_restrict_members, dom_subtract_members, ran_restrict_members, ran_subtract_members, overwrite_members, compose_members, direct_members, parallel_members, prj1_members, prj2_members}
+use Rattle.b_relations.specs.Relations.{couple, couples, composed, dom_members, ran_members, converse_members, identity_members, image_members, overwrite_members, compose_members, direct_members, parallel_members, prj1_members, prj2_members}
 use Rattle.b_relations.proofs.RowLaws.{in_composed}
 
 -- both parts of each are values
@@ -22,7 +21,7 @@ pub couples_values : (r : Value) → IsValue r → PartsAreValues (couples r)
 couples_values r h p m = couple_parts p.0 p.1 (all_in IsValue (elements r) (elements_are_values r h) (couple p) ((in_couples (elements r) p).0 m))
 
 pub filter_values : (t : Value × Value → Bool) (ps : List (Value × Value)) → PartsAreValues ps → PartsAreValues (filter t ps)
-filter_values t ps h p m = h p ((in_filter t ps p).0 m).0
+filter_values t ps h p m = h p ((in_filter t p ps).0 m).0
 
 pub append_values : (ps qs : List (Value × Value)) → PartsAreValues ps → PartsAreValues qs → PartsAreValues (ps ++ qs)
 append_values ps qs h k p m = elim ((in_append p ps qs).0 m) [ inl f ↦ h p f | inr f ↦ k p f ]
@@ -34,13 +33,13 @@ composed_values ps qs h k p m =
 
 -- what is made of values that are parts
 pub map_values : (f : Value × Value → Value) (ps : List (Value × Value)) → PartsAreValues ps → ((p : Value × Value) → IsValue p.0 × IsValue p.1 → IsValue (f p)) → AllByRecursion IsValue (map f ps)
-map_values f ps h k = all_from IsValue (map f ps) (λ z m. let w = (in_map f ps z).0 m in subst IsValue (sym w.2) (k w.0 (h w.0 w.1)))
+map_values f ps h k = all_from IsValue (map f ps) (λ z m. let w = (in_map f z ps).0 m in subst IsValue (sym w.2) (k w.0 (h w.0 w.1)))
 
 pub couple_map_values : (ps : List (Value × Value)) → PartsAreValues ps → AllByRecursion IsValue (map couple ps)
 couple_map_values ps h = map_values couple ps h (λ p k. is_couple p.0 p.1 k.0 k.1)
 
 pub flat_values : {X : Type 0} (f : X → List Value) (xs : List X) → ((x : X) → In x xs → AllByRecursion IsValue (f x)) → AllByRecursion IsValue (flat_map f xs)
-flat_values f xs h = all_from IsValue (flat_map f xs) (λ z m. let k = (in_flat_map f xs z).0 m in all_in IsValue (f k.0) (h k.0 k.1) z k.2)
+flat_values f xs h = all_from IsValue (flat_map f xs) (λ z m. let k = (in_flat_map f z xs).0 m in all_in IsValue (f k.0) (h k.0 k.1) z k.2)
 
 -- ---- the rows
 
@@ -55,7 +54,7 @@ converse_values r h = map_values (λ p. Pair p.1 p.0) (couples r) (couples_value
 
 pub identity_values : (s : Value) → IsValue s → AllByRecursion IsValue (identity_members s)
 identity_values s h = all_from IsValue (identity_members s) (λ z m.
-    let k = (in_map (λ (w : Value). Pair w w) (elements s) z).0 m in
+    let k = (in_map (λ (w : Value). Pair w w) z (elements s)).0 m in
     let v = all_in IsValue (elements s) (elements_are_values s h) k.0 k.1 in
     subst IsValue (sym k.2) (is_couple k.0 k.0 v v))
 
@@ -90,7 +89,7 @@ parallel_values r s h k = flat_values (λ p. map (λ q. Pair (Pair p.0 q.0) (Pai
 products_values : (make : Value → Value → Value) → ((x y : Value) → IsValue x → IsValue y → IsValue (make x y)) → (s t : Value) → IsValue s → IsValue t
     → AllByRecursion IsValue (flat_map (λ x. map (make x) (elements t)) (elements s))
 products_values make f s t h k = flat_values (λ x. map (make x) (elements t)) (elements s) (λ x m. all_from IsValue _ (λ z n.
-    let w = (in_map (make x) (elements t) z).0 n in
+    let w = (in_map (make x) z (elements t)).0 n in
     subst IsValue (sym w.2) (f x w.0 (all_in IsValue (elements s) (elements_are_values s h) x m) (all_in IsValue (elements t) (elements_are_values t k) w.0 w.1))))
 
 pub prj1_values : (s t : Value) → IsValue s → IsValue t → AllByRecursion IsValue (prj1_members s t)

@@ -1,15 +1,15 @@
 -- Couples with one first part stand together, and two binary searches find them.
-use Rattle.std.proofs.Common.{◌≡◌, ◌⊎◌, ◌↔◌, ◌<◌, ◌≤◌, ◌+◌, ◌-◌, ℕ, zero, suc, Bool, true, false, not, cond, List, [], ◌∷◌, ◌++◌, map, length, get_or, take, drop, Option, Some, None, arith, refl, sym, ap, ◌∙◌, subst, inl, inr}
-use Rattle.std.specs.List.{filter, filter_map, cons_option}
+use Rattle.std.proofs.Common.{◌≡◌, ◌⊎◌, ◌<◌, ◌≤◌, ◌+◌, ◌-◌, ℕ, zero, suc, Bool, true, false, not, cond, List, [], ◌∷◌, map, length, get_or, take, drop, Option, Some, None, arith, refl, sym, ap, ◌∙◌, subst, inl, inr}
+use Rattle.std.specs.List.{filter, cons_option}
 use Rattle.std.specs.List.Sorted.{IsPartitionedBy, IsPartitionPoint}
 use Rattle.std.proofs.lemmas.List.{take_all}
 use Rattle.std.specs.declared.cmp.Ordering.{Ordering}
 use Rattle.std.specs.declared.cmp.Ordering.TheVariants.{Less, Equal, Greater}
 use Rattle.std.specs.Ordering.{is_lt, is_eq, is_gt, ordering_then}
 use Rattle.std.proofs.lemmas.Bool.{cases_lt}
-use Rattle.ascending.specs.Ascending.{In, IsAscending}
+use Rattle.ascending.specs.Ascending.{IsAscending}
 use Rattle.ascending.specs.Members.{all_in, in_at}
-use Rattle.ascending.specs.AscendingLaws.{ascending_head, ascending_tail, ascending_none}
+use Rattle.ascending.specs.AscendingLaws.{ascending_head, ascending_tail}
 use Rattle.b_values.specs.OrderLaws.{layers_cmp, cmp_out, value_same, value_chain}
 use Rattle.b_values.specs.Values.{value_cmp, same_value}
 use Rattle.b_values.specs.declared.values.Value.{Value, out-Value}
@@ -29,11 +29,11 @@ pair_low : (a b c d x : Value) → ordering_then (value_cmp a c) (value_cmp b d)
 pair_low a b c d x e r f = elim (then_less (value_cmp a c) (value_cmp b d) e) [
   | inl l ↦ (
     λ g. value_chain a c x l (f ∙ g),
-    λ g. let same = value_same c x (f ∙ g) in ap is_gt (subst (λ w. value_cmp a w ≡ Less) same l)
+    λ g. let same = value_same c x (f ∙ g) in ap is_gt (subst (λ w. value_cmp a w ≡ Less) same l),
   )
   | inr q ↦ (let same = value_same a c q in (
     λ g. subst (λ w. value_cmp w x ≡ Less) (sym same) (f ∙ g),
-    λ g. ap is_gt (subst (λ w. value_cmp w x ≡ Equal) (sym same) (f ∙ g))
+    λ g. ap is_gt (subst (λ w. value_cmp w x ≡ Equal) (sym same) (f ∙ g)),
   ))
 ]
 
@@ -161,12 +161,12 @@ pub couples_between : (x : Value) (xs : List Value) (low count : ℕ) → low �
 couples_between x xs low count within b1 b2 a1 a2 =
     sym (skip_false (begins_with x) xs low (λ k d l. before _ (b1 k d l))
     ∙ keep_true (begins_with x) (drop low xs) count
-        (λ k d l m. neither _ (rw (at_drop xs low k d) (b2 (low + k) d (omega arith) (omega (arith, drop_length xs low)))) (a1 k d l))
-        (λ k d l m. after _ (a2 k d l m)))
+    (λ k d l m. neither _ (rw (at_drop xs low k d) (b2 (low + k) d (omega arith) (omega (arith, drop_length xs low)))) (a1 k d l))
+    (λ k d l m. after _ (a2 k d l m)))
 
 -- ---- members that are couples, and their parts
 
-of_cond : (b : Bool) (f : List Value → List (Value × Value)) (xs ys : List Value) → f (cond b xs ys) ≡ cond b (f xs) (f ys)
+pub of_cond : (b : Bool) (f : List Value → List (Value × Value)) (xs ys : List Value) → f (cond b xs ys) ≡ cond b (f xs) (f ys)
 of_cond true f xs ys = refl
 of_cond false f xs ys = refl
 
@@ -215,6 +215,6 @@ pub couples_found : (x : Value) (xs : List Value) (low count : ℕ) → low ≤ 
 couples_found x xs low count within first second =
     let e = rest_whole xs low in
     let rest : IsPartitionPoint (λ m. not_after x m ≡ true) (λ m. not_after x m ≡ false) (drop low xs) count =
-        subst (λ l. IsPartitionPoint (λ m. not_after x m ≡ true) (λ m. not_after x m ≡ false) l count) e second in
+    subst (λ l. IsPartitionPoint (λ m. not_after x m ≡ true) (λ m. not_after x m ≡ false) l count) e second in
     ap (take count) e
     ∙ couples_between x xs low count within (λ k d l. first.0 k d (omega arith) l) (λ k d l m. first.1 k d l m) (λ k d l. rest.0 k d (omega arith) l) (λ k d l m. rest.1 k d l m)

@@ -1,13 +1,11 @@
 -- The laws of couples, and of the test whether a value is one of a list.
-use Rattle.std.proofs.Common.{◌≡◌, ◌⊎◌, ◌↔◌, Bool, true, false, not, ◌||◌, List, [], ◌∷◌, ◌++◌, map, Option, Some, None, refl, sym, ap, ◌∙◌, subst, inl, inr}
-use Rattle.std.specs.List.{filter, filter_map, flat_map, list_any}
+use Rattle.std.proofs.Common.{◌≡◌, ◌↔◌, Bool, true, false, not, List, map, Some, refl, sym, ap, ◌∙◌, subst}
 use Rattle.ascending.specs.Ascending.{In}
-use Rattle.b_values.specs.SameLaws.{value_decides}
-use Rattle.b_values.specs.Values.{same_value}
 use Rattle.b_values.specs.declared.values.Value.{Value, out-Value, roll-Value, roll-out-Value}
 use Rattle.b_values.specs.declared.values.Value.TheOpen.{Value-F}
 use Rattle.b_values.specs.declared.values.Value.TheVariants.{Pair, outs-Pair, rolls-Pair}
-use Rattle.b_relations.specs.Listed.{in_map, in_filter_map}
+use Rattle.set_making.specs.ListMembers.{in_map}
+use Rattle.b_relations.specs.Listed.{in_filter_map}
 use Rattle.set_making.specs.Making.{is_among}
 use Rattle.set_making.specs.MakingLaws.{is_among_finds}
 use Rattle.b_relations.specs.Relations.{parts_of, parts, couple, couples_in}
@@ -45,8 +43,8 @@ in_couples xs p = (
 -- a couple is among those that are made of parts where its parts are
 pub in_couple_map : (ps : List (Value × Value)) (p : Value × Value) → In (couple p) (map couple ps) ↔ In p ps
 in_couple_map ps p = (
-  λ h. let k = (in_map couple ps (couple p)).0 h in subst (λ w. In w ps) (sym (same_parts p k.0 k.2)) k.1,
-  λ h. (in_map couple ps (couple p)).1 (p, h, refl),
+  λ h. let k = (in_map couple (couple p) ps).0 h in subst (λ w. In w ps) (sym (same_parts p k.0 k.2)) k.1,
+  λ h. (in_map couple (couple p) ps).1 (p, h, refl),
 )
 
 -- ---- tests

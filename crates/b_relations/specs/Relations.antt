@@ -1,5 +1,5 @@
 -- What the operators on relations and functions give: which members, or the fault.
-use Rattle.std.specs.Prelude.{◌≡◌, ◌⊎◌, ℕ, zero, suc, ◌+◌, Bool, true, not, List, [], ◌∷◌, ◌++◌, map, length, Option, Some, None, Result, Ok, Err, pos, negsuc}
+use Rattle.std.specs.Prelude.{◌≡◌, ◌⊎◌, ℕ, zero, suc, ◌+◌, not, List, [], ◌∷◌, ◌++◌, map, length, Option, Some, None, Result, Ok, Err, pos}
 use Rattle.std.specs.List.{filter, filter_map, flat_map, range_with_len}
 use Rattle.ascending.specs.Ascending.{In}
 use Rattle.b_values.specs.Values.{elements, same_value}

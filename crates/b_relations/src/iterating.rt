@@ -115,7 +115,12 @@ fn make_room(found: &mut Vec<Value>, room: usize) -> usize
 }
 
 /// Puts the compositions of one member with the couples of s at the end.
-fn push_compositions(alloc: Global, found: &mut Vec<Value>, m: &Value, s: &[Value]) -> Result<(), AllocError>
+fn push_compositions(
+    alloc: Global,
+    found: &mut Vec<Value>,
+    m: &Value,
+    s: &[Value],
+) -> Result<(), AllocError>
     requires { IsAscending value_cmp s.now }
     ensures { OnOk result (found.new.items ≡ found.old.items ++ joined Compose (couples_in (m.now ∷ [])) (couples_in s.now)) }
 {
@@ -125,7 +130,12 @@ fn push_compositions(alloc: Global, found: &mut Vec<Value>, m: &Value, s: &[Valu
     }
 }
 
-fn push_ends(alloc: Global, found: &mut Vec<Value>, a: &Value, group: &[Value]) -> Result<(), AllocError>
+fn push_ends(
+    alloc: Global,
+    found: &mut Vec<Value>,
+    a: &Value,
+    group: &[Value],
+) -> Result<(), AllocError>
     ensures { OnOk result (found.new.items ≡ found.old.items ++ map (λ q. rows.couple (a.now, q.1)) (couples_in group.now)) }
 {
     for m in group {

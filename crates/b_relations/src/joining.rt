@@ -96,7 +96,13 @@ fn join_all(alloc: Global, how: Join, r: &[Value], s: &[Value]) -> Result<Value,
 }
 
 /// Gathers what is made of one member, where it is a couple, and of each couple of s that goes with it.
-fn add_joined(alloc: Global, gathering: &mut Gathering, how: Join, m: &Value, s: &[Value]) -> Result<(), OpFault>
+fn add_joined(
+    alloc: Global,
+    gathering: &mut Gathering,
+    how: Join,
+    m: &Value,
+    s: &[Value],
+) -> Result<(), OpFault>
     requires { IsAscending value_cmp s.now }
     ensures { Adds gathering.old (joined how (couples_in (m.now ∷ [])) (couples_in s.now)) result gathering.new }
 {
@@ -122,7 +128,14 @@ fn partners<'a>(how: Join, a: &Value, b: &Value, s: &'a [Value]) -> &'a [Value]
 }
 
 /// Gathers what is made of a couple and each couple of the group.
-fn add_group(alloc: Global, gathering: &mut Gathering, how: Join, a: &Value, b: &Value, group: &[Value]) -> Result<(), OpFault>
+fn add_group(
+    alloc: Global,
+    gathering: &mut Gathering,
+    how: Join,
+    a: &Value,
+    b: &Value,
+    group: &[Value],
+) -> Result<(), OpFault>
     ensures { Adds gathering.old (map (spec.made how (a.now, b.now)) (couples_in group.now)) result gathering.new }
 {
     for m in group {
@@ -133,7 +146,14 @@ fn add_group(alloc: Global, gathering: &mut Gathering, how: Join, a: &Value, b: 
     Ok(())
 }
 
-fn add_made(alloc: Global, gathering: &mut Gathering, how: Join, a: &Value, b: &Value, m: &Value) -> Result<(), OpFault>
+fn add_made(
+    alloc: Global,
+    gathering: &mut Gathering,
+    how: Join,
+    a: &Value,
+    b: &Value,
+    m: &Value,
+) -> Result<(), OpFault>
     ensures { Adds gathering.old (map (spec.made how (a.now, b.now)) (couples_in (m.now ∷ []))) result gathering.new }
 {
     match m {
@@ -145,7 +165,14 @@ fn add_made(alloc: Global, gathering: &mut Gathering, how: Join, a: &Value, b: &
     }
 }
 
-fn make(alloc: Global, how: Join, a: &Value, b: &Value, c: &Value, d: &Value) -> Result<Value, AllocError>
+fn make(
+    alloc: Global,
+    how: Join,
+    a: &Value,
+    b: &Value,
+    c: &Value,
+    d: &Value,
+) -> Result<Value, AllocError>
     ensures { IfOk result (λ v. v ≡ spec.made how (a.now, b.now) (c.now, d.now)) }
 {
     match how {
@@ -168,7 +195,13 @@ fn project(alloc: Global, side: Side, s: &[Value], t: &[Value]) -> Result<Value,
     gathering.finish()
 }
 
-fn add_row(alloc: Global, gathering: &mut Gathering, side: Side, x: &Value, t: &[Value]) -> Result<(), OpFault>
+fn add_row(
+    alloc: Global,
+    gathering: &mut Gathering,
+    side: Side,
+    x: &Value,
+    t: &[Value],
+) -> Result<(), OpFault>
     ensures { Adds gathering.old (map (spec.projection side x.now) t.now) result gathering.new }
 {
     for y in t {
@@ -179,7 +212,13 @@ fn add_row(alloc: Global, gathering: &mut Gathering, side: Side, x: &Value, t: &
     Ok(())
 }
 
-fn add_projection(alloc: Global, gathering: &mut Gathering, side: Side, x: &Value, y: &Value) -> Result<(), OpFault>
+fn add_projection(
+    alloc: Global,
+    gathering: &mut Gathering,
+    side: Side,
+    x: &Value,
+    y: &Value,
+) -> Result<(), OpFault>
     ensures { Adds gathering.old (spec.projection side x.now y.now ∷ []) result gathering.new }
 {
     match projection(alloc, side, x, y) {

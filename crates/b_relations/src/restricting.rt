@@ -73,7 +73,13 @@ pub fn overwrite(alloc: Global, r: &Value, s: &Value) -> Result<Value, OpFault>
 }
 
 /// The couples whose part at the side is in the set, or, where not `within`, isn't.
-fn restricted(alloc: Global, r: &Value, side: Side, s: &Value, within: bool) -> Result<Value, OpFault>
+fn restricted(
+    alloc: Global,
+    r: &Value,
+    side: Side,
+    s: &Value,
+    within: bool,
+) -> Result<Value, OpFault>
     requires relation { IsKept r.now }
     requires set { IsKept s.now }
     ensures { Answers (sets.set_with (map couple (filter (spec.keeps side (elements s.now) within) (couples r.now)))) result }

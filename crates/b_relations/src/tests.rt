@@ -89,7 +89,10 @@ fn set_type(alloc: Global, a: Ty) -> Result<Ty, AllocError> {
 
 /// The type of a set of couples of integers.
 fn relation_type(alloc: Global) -> Result<Ty, AllocError> {
-    set_type(alloc, Ty::Pair(Boxed::new(alloc, Ty::Int)?, Boxed::new(alloc, Ty::Int)?))
+    set_type(
+        alloc,
+        Ty::Pair(Boxed::new(alloc, Ty::Int)?, Boxed::new(alloc, Ty::Int)?),
+    )
 }
 
 fn fault_text(fault: OpFault) -> &'static [u8] {
@@ -122,7 +125,14 @@ fn check_one(rt: &impl Abort, alloc: Global, op: One, ty: &Ty, table: &str) -> R
 }
 
 /// Each line of a table has two operands, of these types, and what the operator answers.
-fn check_two(rt: &impl Abort, alloc: Global, op: Two, left: &Ty, right: &Ty, table: &str) -> Result<(), Fail> {
+fn check_two(
+    rt: &impl Abort,
+    alloc: Global,
+    op: Two,
+    left: &Ty,
+    right: &Ty,
+    table: &str,
+) -> Result<(), Fail> {
     let face = empty_face(alloc)?;
     for line in table.lines() {
         let (a, rest) = line.split_once(';').ok_or("a line without a semicolon")?;
@@ -212,7 +222,13 @@ fn answers_one_operand(rt: HostRuntime) -> Result<(), Fail> {
     check_one(&rt, alloc, One::Dom, &relations, DOMAINS)?;
     check_one(&rt, alloc, One::Ran, &relations, RANGES)?;
     check_one(&rt, alloc, One::Converse, &relations, CONVERSES)?;
-    check_one(&rt, alloc, One::Identity, &set_type(alloc, Ty::Int)?, IDENTITIES)?;
+    check_one(
+        &rt,
+        alloc,
+        One::Identity,
+        &set_type(alloc, Ty::Int)?,
+        IDENTITIES,
+    )?;
     check_one(&rt, alloc, One::Closure1, &relations, TRANSITIVE_CLOSURES)?;
     check_one(&rt, alloc, One::Closure, &relations, REFLEXIVE_CLOSURES)
 }
@@ -223,11 +239,46 @@ fn restricts(rt: HostRuntime) -> Result<(), Fail> {
     let relations = relation_type(alloc)?;
     let numbers = set_type(alloc, Ty::Int)?;
     check_two(&rt, alloc, Two::Image, &relations, &numbers, IMAGES)?;
-    check_two(&rt, alloc, Two::DomRestrict, &numbers, &relations, DOMAIN_RESTRICTIONS)?;
-    check_two(&rt, alloc, Two::DomSubtract, &numbers, &relations, DOMAIN_SUBTRACTIONS)?;
-    check_two(&rt, alloc, Two::RanRestrict, &relations, &numbers, RANGE_RESTRICTIONS)?;
-    check_two(&rt, alloc, Two::RanSubtract, &relations, &numbers, RANGE_SUBTRACTIONS)?;
-    check_two(&rt, alloc, Two::Overwrite, &relations, &relations, OVERRIDES)?;
+    check_two(
+        &rt,
+        alloc,
+        Two::DomRestrict,
+        &numbers,
+        &relations,
+        DOMAIN_RESTRICTIONS,
+    )?;
+    check_two(
+        &rt,
+        alloc,
+        Two::DomSubtract,
+        &numbers,
+        &relations,
+        DOMAIN_SUBTRACTIONS,
+    )?;
+    check_two(
+        &rt,
+        alloc,
+        Two::RanRestrict,
+        &relations,
+        &numbers,
+        RANGE_RESTRICTIONS,
+    )?;
+    check_two(
+        &rt,
+        alloc,
+        Two::RanSubtract,
+        &relations,
+        &numbers,
+        RANGE_SUBTRACTIONS,
+    )?;
+    check_two(
+        &rt,
+        alloc,
+        Two::Overwrite,
+        &relations,
+        &relations,
+        OVERRIDES,
+    )?;
     check_two(&rt, alloc, Two::Apply, &relations, &Ty::Int, APPLICATIONS)
 }
 
@@ -236,24 +287,57 @@ fn joins(rt: HostRuntime) -> Result<(), Fail> {
     let alloc = rt.alloc();
     let relations = relation_type(alloc)?;
     let numbers = set_type(alloc, Ty::Int)?;
-    check_two(&rt, alloc, Two::Compose, &relations, &relations, COMPOSITIONS)?;
-    check_two(&rt, alloc, Two::Direct, &relations, &relations, DIRECT_PRODUCTS)?;
-    check_two(&rt, alloc, Two::Parallel, &relations, &relations, PARALLEL_PRODUCTS)?;
+    check_two(
+        &rt,
+        alloc,
+        Two::Compose,
+        &relations,
+        &relations,
+        COMPOSITIONS,
+    )?;
+    check_two(
+        &rt,
+        alloc,
+        Two::Direct,
+        &relations,
+        &relations,
+        DIRECT_PRODUCTS,
+    )?;
+    check_two(
+        &rt,
+        alloc,
+        Two::Parallel,
+        &relations,
+        &relations,
+        PARALLEL_PRODUCTS,
+    )?;
     check_two(&rt, alloc, Two::Prj1, &numbers, &numbers, FIRST_PROJECTIONS)?;
-    check_two(&rt, alloc, Two::Prj2, &numbers, &numbers, SECOND_PROJECTIONS)?;
+    check_two(
+        &rt,
+        alloc,
+        Two::Prj2,
+        &numbers,
+        &numbers,
+        SECOND_PROJECTIONS,
+    )?;
     check_two(&rt, alloc, Two::Iterate, &relations, &Ty::Int, ITERATES)
 }
 
-/// The numbers from 0, so many.
-fn numbers(alloc: Global, count: u32) -> Result<Value, Fail>
-    ensures { IfOk result (λ v. IsKept v) }
-{
-    let face = empty_face(alloc)?;
+/// The text of the set of the numbers from 0, so many.
+fn numbers_text(alloc: Global, count: u32) -> Result<String, Fail> {
     let mut text = String::from_str(alloc, "{0")?;
     for n in 1..count {
         text.push_str(format!(in alloc; ",{n}")?.as_str())?;
     }
     text.push_str("}")?;
+    Ok(text)
+}
+
+fn numbers(alloc: Global, count: u32) -> Result<Value, Fail>
+    ensures { IfOk result (λ v. IsKept v) }
+{
+    let face = empty_face(alloc)?;
+    let text = numbers_text(alloc, count)?;
     Ok(read_value(alloc, &face, &set_type(alloc, Ty::Int)?, text.as_bytes())?)
 }
 
@@ -267,47 +351,60 @@ fn to_none(alloc: Global, count: u32) -> Result<Value, Fail>
     Ok(compose(alloc, &first, &prj2(alloc, &all, &none)?)?)
 }
 
+/// 500 values of 1003 nodes, each related to a number of its own.
+fn large(alloc: Global) -> Result<Value, Fail>
+    ensures { IfOk result (λ v. IsKept v) }
+{
+    let face = empty_face(alloc)?;
+    let families = set_type(alloc, set_type(alloc, Ty::Int)?)?;
+    let inner = numbers_text(alloc, 1_000)?;
+    let text = format!(in alloc; "{{{}}}", inner.as_str())?;
+    let block = read_value(alloc, &face, &families, text.as_bytes())?;
+    Ok(prj1(alloc, &numbers(alloc, 500)?, &block)?)
+}
+
+/// 0 related to each of those values.
+fn from_none(alloc: Global) -> Result<Value, Fail>
+    ensures { IfOk result (λ v. IsKept v) }
+{
+    let back = converse(alloc, &to_none(alloc, 500)?)?;
+    Ok(compose(alloc, &back, &converse(alloc, &large(alloc)?)?)?)
+}
+
 /// What tells an answer that is refused.
 fn is_refused(answer: Result<Value, OpFault>) -> bool {
     matches!(answer, Err(OpFault::Fault(FaultKind::TooLarge)))
 }
 
-/// A million nodes are the limit, whatever is joined on the way.
+/// A million nodes are the limit.
 #[test]
 fn refuses_joins_that_are_too_large(rt: HostRuntime) -> Result<(), Fail> {
     let alloc = rt.alloc();
-    let thousand = numbers(alloc, 1_000)?;
-    assert!(rt; is_refused(prj1(alloc, &thousand, &thousand)));
-    assert!(rt; is_refused(prj2(alloc, &thousand, &thousand)));
-    let there = to_none(alloc, 1_000)?;
+    let values = dom(alloc, &large(alloc)?)?;
+    let three = numbers(alloc, 3)?;
+    assert!(rt; is_refused(prj1(alloc, &values, &three)));
+    assert!(rt; is_refused(prj2(alloc, &values, &three)));
+    let there = to_none(alloc, 3)?;
     let back = converse(alloc, &there)?;
-    assert!(rt; is_refused(compose(alloc, &there, &back)));
-    assert!(rt; is_refused(direct(alloc, &back, &back)));
-    assert!(rt; is_refused(parallel(alloc, &there, &there)));
-    Ok(())
-}
-
-#[test]
-fn refuses_closures_that_are_too_large(rt: HostRuntime) -> Result<(), Fail> {
-    let alloc = rt.alloc();
-    let face = empty_face(alloc)?;
-    let there = to_none(alloc, 1_000)?;
-    let both = overwrite(alloc, &there, &converse(alloc, &there)?)?;
-    assert!(rt; is_refused(closure1(alloc, &both)));
-    assert!(rt; is_refused(closure(alloc, &both)));
-    let two = read_value(alloc, &face, &Ty::Int, b"2")?;
-    assert!(rt; is_refused(iterate(alloc, &both, &two)));
+    let away = from_none(alloc)?;
+    assert!(rt; is_refused(compose(alloc, &there, &away)));
+    assert!(rt; is_refused(direct(alloc, &away, &back)));
+    assert!(rt; is_refused(parallel(alloc, &away, &there)));
     Ok(())
 }
 
 #[test]
 fn refuses_what_else_is_too_large(rt: HostRuntime) -> Result<(), Fail> {
     let alloc = rt.alloc();
-    let thousand = numbers(alloc, 1_000)?;
-    let wide = prj1(alloc, &numbers(alloc, 120)?, &thousand)?;
-    assert!(rt; is_refused(overwrite(alloc, &wide, &converse(alloc, &wide)?)));
-    let wider = prj1(alloc, &numbers(alloc, 199)?, &thousand)?;
-    assert!(rt; is_refused(identity(alloc, &dom(alloc, &wider)?)));
+    let face = empty_face(alloc)?;
+    let whole = large(alloc)?;
+    assert!(rt; is_refused(overwrite(alloc, &whole, &converse(alloc, &whole)?)));
+    assert!(rt; is_refused(identity(alloc, &dom(alloc, &whole)?)));
+    let both = overwrite(alloc, &to_none(alloc, 3)?, &from_none(alloc)?)?;
+    assert!(rt; is_refused(closure1(alloc, &both)));
+    assert!(rt; is_refused(closure(alloc, &both)));
+    let two = read_value(alloc, &face, &Ty::Int, b"2")?;
+    assert!(rt; is_refused(iterate(alloc, &both, &two)));
     Ok(())
 }
 
@@ -317,16 +414,19 @@ fn obeys_laws(rt: HostRuntime) -> Result<(), Fail> {
     let alloc = rt.alloc();
     let face = empty_face(alloc)?;
     let relations = relation_type(alloc)?;
-    for r in ["{}", "{(1|->2)}", "{(1|->1),(1|->2),(2|->5)}"] {
+    for (r, s) in [
+        ("{}", "{(2|->1)}"),
+        ("{(1|->2)}", "{}"),
+        ("{(1|->2)}", "{(2|->1),(2|->3)}"),
+        ("{(1|->1),(1|->2),(2|->5)}", "{(2|->1),(5|->2)}"),
+    ] {
         let r = read_value(alloc, &face, &relations, r.as_bytes())?;
+        let s = read_value(alloc, &face, &relations, s.as_bytes())?;
         let turned = converse(alloc, &r)?;
         assert!(rt; same_value(&dom(alloc, &turned)?, &ran(alloc, &r)?));
-        for s in ["{}", "{(2|->1),(5|->2)}", "{(1|->4),(2|->3)}"] {
-            let s = read_value(alloc, &face, &relations, s.as_bytes())?;
-            let after = converse(alloc, &compose(alloc, &r, &s)?)?;
-            let before = compose(alloc, &converse(alloc, &s)?, &turned)?;
-            assert!(rt; same_value(&after, &before));
-        }
+        let after = converse(alloc, &compose(alloc, &r, &s)?)?;
+        let before = compose(alloc, &converse(alloc, &s)?, &turned)?;
+        assert!(rt; same_value(&after, &before));
     }
     Ok(())
 }

@@ -40,7 +40,12 @@ fn take_from(alloc: Global, what: Taken, a: &Value, b: &Value) -> Result<Value, 
 }
 
 /// Puts what is taken of each couple at the end.
-pub fn take_into(alloc: Global, found: &mut Vec<Value>, members: &[Value], what: Taken) -> Result<(), AllocError>
+pub fn take_into(
+    alloc: Global,
+    found: &mut Vec<Value>,
+    members: &[Value],
+    what: Taken,
+) -> Result<(), AllocError>
     ensures { OnOk result (found.new.items ≡ found.old.items ++ map (spec.taken what) (couples_in members.now)) }
 {
     for m in members {
@@ -82,7 +87,13 @@ fn keeps(m: &Value, side: Side, set: &[Value], within: bool) -> bool
 }
 
 /// The couples whose part at the side is in the set, or, where not `within`, isn't, in their order.
-pub fn kept_couples(alloc: Global, members: &[Value], side: Side, set: &[Value], within: bool) -> Result<Items<Value>, AllocError>
+pub fn kept_couples(
+    alloc: Global,
+    members: &[Value],
+    side: Side,
+    set: &[Value],
+    within: bool,
+) -> Result<Items<Value>, AllocError>
     requires { IsAscending value_cmp set.now }
     ensures { IfOk result (λ kept. kept ≡ filter (passes (spec.keeps side set.now within)) members.now) }
 {

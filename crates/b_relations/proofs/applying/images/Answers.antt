@@ -1,5 +1,5 @@
-use Rattle.std.proofs.Common.{◌≡◌, map, sym, subst, ap, ◌∙◌}
-use Rattle.std.specs.List.{filter, flat_map}
+use Rattle.std.proofs.Common.{map, ap}
+use Rattle.std.specs.List.{filter}
 use Rattle.b_relations.specs.Parts.{begins_with}
 use Rattle.b_relations.specs.Relations.{couples_in}
 use Rattle.b_relations.proofs.Steps.{gather_step}

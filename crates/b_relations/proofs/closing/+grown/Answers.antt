@@ -1,4 +1,4 @@
-use Rattle.std.proofs.Common.{◌≡◌, ◌++◌, ◌-◌, ◌<◌, length, arith, sym, ap, ◌∙◌}
+use Rattle.std.proofs.Common.{◌++◌, ◌-◌, ◌<◌, length, arith, sym, ap, ◌∙◌}
 use Rattle.b_values.specs.Values.{elements}
 use Rattle.b_relations.specs.Relations.{closure1_members, compose_members}
 use Rattle.b_relations.proofs.ClosureLaws.{grown_whole, step_kept, step_relation, step_shorter, step_answer, step_within, part_fault}
@@ -8,7 +8,7 @@ pub grown-requires : goal.grown-requires
 grown-requires t c =
     let d = c.decreases in
     let h : 1000000 - length (elements c.in-Ok.more) < 1000000 - length (elements c.args.s.now) =
-        step_shorter c.args.s.now c.in-Ok.more c.requires.kept c.requires.relation c.in-Ok.ensures (λ q. c.if-members.false (ap length c.members.ensures ∙ q ∙ ap length (sym c.members-in-Ok.ensures))) in
+    step_shorter c.args.s.now c.in-Ok.more c.requires.kept c.requires.relation c.in-Ok.ensures (λ q. c.if-members.false (ap length c.members.ensures ∙ q ∙ ap length (sym c.members-in-Ok.ensures))) in
     (omega arith, (step_kept c.args.s.now c.in-Ok.more c.requires.kept c.requires.relation c.in-Ok.ensures, step_relation c.args.s.now c.in-Ok.more c.requires.relation c.in-Ok.ensures))
 
 pub returns-then-members : goal.returns-then-members

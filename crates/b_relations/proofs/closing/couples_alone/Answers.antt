@@ -1,4 +1,4 @@
-use Rattle.std.proofs.Common.{◌≡◌, [], false, sym, subst, ap, ◌∙◌}
+use Rattle.std.proofs.Common.{[], false, subst, ap, ◌∙◌}
 use Rattle.std.specs.List.{filter}
 use Rattle.ascending.specs.AscendingLaws.{ascending_none}
 use Rattle.b_values.specs.ValueLaws.{elements_ascend}

@@ -1,9 +1,8 @@
-use Rattle.std.proofs.Common.{◌≡◌, map, sym, subst, ap, ◌∙◌}
+use Rattle.std.proofs.Common.{map, sym, subst, ◌∙◌}
 use Rattle.ascending.specs.Ascending.{IsAscending}
 use Rattle.b_values.specs.ValueLaws.{elements_ascend}
 use Rattle.b_values.specs.Values.{value_cmp}
 use Rattle.b_relations.specs.Relations.{couple, couples_in, iterated}
-use Rattle.b_relations.proofs.ClosureLaws.{standing_is}
 use Rattle.b_relations.proofs.Results.{made_ascends}
 use Rattle.b_relations.proofs.closing.with_standing.Goals as goal
 

@@ -1,5 +1,4 @@
 use Rattle.std.proofs.Common.{◌≡◌, pos, rules, arith, sym, ap, ◌∙◌, subst}
-use Rattle.std.proofs.lemmas.Grind.{common_steps}
 use Rattle.std.proofs.lemmas.Int.{ints, to_z-of_z}
 use Rattle.b_values.specs.declared.values.Value.TheVariants.{Int}
 use Rattle.set_making.specs.Making.{Answers}
@@ -14,5 +13,5 @@ pub returns-in-Some-clause-members : goal.returns-in-Some-clause-members
 returns-in-Some-clause-members c =
     let f : c.in-Int.number ≡ pos c.in-Some.times = first_of (search (rules, c.in-Some.ensures), omega (arith, ints, c.in-Some.ensures), grind (arith, ints, to_z-of_z, c.in-Some.ensures)) in
     let a : Answers (iterate_row c.args.r.now c.args.n.now) c.iterated.result =
-        subst (λ row. Answers row c.iterated.result) (sym (iterate_at c.args.r.now c.args.n.now c.in-Some.times (c.in-Int.is ∙ ap Int f))) c.iterated.ensures in
+    subst (λ row. Answers row c.iterated.result) (sym (iterate_at c.args.r.now c.args.n.now c.in-Some.times (c.in-Int.is ∙ ap Int f))) c.iterated.ensures in
     λ k e. iterate_leads c.args.r.now c.args.n.now k c.iterated.result e a

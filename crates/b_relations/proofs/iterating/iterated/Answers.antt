@@ -1,9 +1,9 @@
-use Rattle.std.proofs.Common.{◌≡◌, map, sym, subst, ap, ◌∙◌}
+use Rattle.std.proofs.Common.{map, sym, subst}
 use Rattle.ascending.specs.Ascending.{IsAscending}
 use Rattle.b_values.specs.ValueLaws.{elements_ascend}
 use Rattle.b_values.specs.Values.{value_cmp}
 use Rattle.set_making.specs.MakingLaws.{gathered_all}
-use Rattle.b_relations.specs.Relations.{couple, couples, couples_in, iterated}
+use Rattle.b_relations.specs.Relations.{couple, couples, iterated}
 use Rattle.b_relations.proofs.IterateLaws.{at_relation}
 use Rattle.b_relations.proofs.Results.{made_ascends}
 use Rattle.b_relations.proofs.iterating.iterated.Goals as goal

@@ -1,5 +1,4 @@
-use Rattle.std.proofs.Common.{List, [], ◌∷◌, map, Ok, Err, sym, subst}
-use Rattle.std.specs.List.{flat_map}
+use Rattle.std.proofs.Common.{List, [], ◌∷◌, map, Ok, Err, subst}
 use Rattle.b_values.specs.declared.values.Value.{Value}
 use Rattle.b_relations.specs.Joining.{Adds, made}
 use Rattle.b_relations.specs.Relations.{couples_in}

@@ -1,8 +1,6 @@
-use Rattle.std.proofs.Common.{List, [], ◌∷◌, map, Ok, Err, sym, subst}
-use Rattle.std.specs.List.{flat_map}
+use Rattle.std.proofs.Common.{List, [], ◌∷◌, Ok, Err, sym, subst}
 use Rattle.b_values.specs.declared.values.Value.{Value}
 use Rattle.b_relations.specs.Joining.{Adds, projection}
-use Rattle.b_relations.specs.Relations.{couples_in}
 use Rattle.b_relations.proofs.Gathers.{adds_stop, map_is_flat}
 use Rattle.b_relations.proofs.JoinLaws.{adds_end}
 use Rattle.b_relations.proofs.joining.add_row.Goals as goal

@@ -1,5 +1,4 @@
-use Rattle.std.proofs.Common.{List, [], ◌∷◌, map, Ok, Err, sym, subst}
-use Rattle.std.specs.List.{flat_map}
+use Rattle.std.proofs.Common.{List, [], ◌∷◌, Ok, Err, subst}
 use Rattle.b_values.specs.declared.values.Value.{Value}
 use Rattle.b_relations.specs.Joining.{Adds, joined, joined_to}
 use Rattle.b_relations.specs.Relations.{couples_in}
@@ -10,10 +9,10 @@ use Rattle.b_relations.proofs.joining.join_all.Goals as goal
 pub returns-in-Err : goal.returns-in-Err
 returns-in-Err c = answer_of_fault (joined c.args.how (couples_in c.args.r.now) (couples_in c.args.s.now)) c.in-Err.fault (fault_gathered (joined c.args.how (couples_in c.args.r.now) (couples_in c.args.s.now)) c.loop-m.gathering c.in-Err.fault
     (subst (λ (l : List Value). Adds [] l (Err c.in-Err.fault) c.loop-m.gathering) (by_members (joined_to c.args.how (couples_in c.args.s.now)) c.args.r.now)
-        (adds_stop (λ (m : Value). joined c.args.how (couples_in (m ∷ [])) (couples_in c.args.s.now)) c.args.r.now c.loop-m.m-index c.m-item.result [] c.loop-m.gathering c.loop-m.gathering c.in-Err.fault c.loop-m-test.true c.m-item.is c.loop-m.invariant c.in-Err.ensures)))
+    (adds_stop (λ (m : Value). joined c.args.how (couples_in (m ∷ [])) (couples_in c.args.s.now)) c.args.r.now c.loop-m.m-index c.m-item.result [] c.loop-m.gathering c.loop-m.gathering c.in-Err.fault c.loop-m-test.true c.m-item.is c.loop-m.invariant c.in-Err.ensures)))
 
 pub returns : goal.returns
 returns c = answers_gathered (joined c.args.how (couples_in c.args.r.now) (couples_in c.args.s.now)) c.loop-m.gathering c.finish.result
     (subst (λ (l : List Value). Adds [] l (Ok tt) c.loop-m.gathering) (by_members (joined_to c.args.how (couples_in c.args.s.now)) c.args.r.now)
-        (adds_end (λ (m : Value). joined c.args.how (couples_in (m ∷ [])) (couples_in c.args.s.now)) c.args.r.now c.loop-m.m-index [] c.loop-m.gathering c.loop-m-test.false c.loop-m.invariant))
+    (adds_end (λ (m : Value). joined c.args.how (couples_in (m ∷ [])) (couples_in c.args.s.now)) c.args.r.now c.loop-m.m-index [] c.loop-m.gathering c.loop-m-test.false c.loop-m.invariant))
     c.finish.ensures

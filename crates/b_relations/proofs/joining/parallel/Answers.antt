@@ -1,13 +1,10 @@
-use Rattle.std.proofs.Common.{◌≡◌, sym, subst}
+use Rattle.std.proofs.Common.{sym, subst}
 use Rattle.ascending.specs.Ascending.{IsAscending}
 use Rattle.b_values.specs.ValueLaws.{elements_ascend}
 use Rattle.b_values.specs.Values.{value_cmp}
-use Rattle.b_values.specs.declared.values.Value.{Value}
 use Rattle.set_making.specs.MakingLaws.{answers_kept}
-use Rattle.b_relations.specs.Relations.{Relates, parallel_members}
+use Rattle.b_relations.specs.Relations.{parallel_members}
 use Rattle.b_relations.proofs.JoinLaws.{parallel_is, parallel_law}
-use Rattle.b_relations.proofs.Results.{answers_relation}
-use Rattle.b_relations.proofs.RowLaws.{in_parallel}
 use Rattle.b_relations.proofs.RowValues.{parallel_values}
 use Rattle.b_relations.proofs.joining.parallel.Goals as goal
 

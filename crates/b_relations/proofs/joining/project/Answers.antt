@@ -1,8 +1,7 @@
-use Rattle.std.proofs.Common.{List, [], ◌∷◌, map, Ok, Err, sym, subst}
+use Rattle.std.proofs.Common.{[], map}
 use Rattle.std.specs.List.{flat_map}
 use Rattle.b_values.specs.declared.values.Value.{Value}
-use Rattle.b_relations.specs.Joining.{Adds, projection}
-use Rattle.b_relations.specs.Relations.{couples_in}
+use Rattle.b_relations.specs.Joining.{projection}
 use Rattle.b_relations.proofs.Gathers.{adds_stop, answers_gathered, fault_gathered, answer_of_fault}
 use Rattle.b_relations.proofs.JoinLaws.{adds_end}
 use Rattle.b_relations.proofs.joining.project.Goals as goal

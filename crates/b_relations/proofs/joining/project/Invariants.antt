@@ -1,4 +1,4 @@
-use Rattle.std.proofs.Common.{[], ◌∷◌, map, take, Ok}
+use Rattle.std.proofs.Common.{[], map, take, Ok}
 use Rattle.std.specs.List.{flat_map}
 use Rattle.b_relations.specs.Joining.{Adds, projection}
 use Rattle.b_relations.proofs.joining.project.Given as goal

@@ -1,4 +1,3 @@
-use Rattle.std.proofs.Common.{not}
 use Rattle.ascending.specs.Ascending.{In}
 use Rattle.b_values.specs.Values.{elements}
 use Rattle.set_making.specs.Making.{is_among}

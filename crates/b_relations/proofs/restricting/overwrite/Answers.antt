@@ -1,5 +1,4 @@
-use Rattle.std.proofs.Common.{◌≡◌, ◌⊎◌, sym, subst}
-use Rattle.set_making.specs.Making.{set_with, Answers}
+use Rattle.std.proofs.Common.{◌⊎◌}
 use Rattle.set_making.specs.MakingLaws.{answers_kept, gathered_all}
 use Rattle.b_relations.specs.Relations.{InDomain, Relates, overwrite_members}
 use Rattle.b_relations.proofs.Results.{answers_relation, made_ascends}

@@ -1,6 +1,6 @@
-use Rattle.std.proofs.Common.{◌≡◌, map, [], false, sym, subst, ap, ◌∙◌}
+use Rattle.std.proofs.Common.{map, [], false, ap, ◌∙◌}
 use Rattle.std.specs.List.{filter}
-use Rattle.ascending.specs.Ascending.{IsAscending, set_of}
+use Rattle.ascending.specs.Ascending.{set_of}
 use Rattle.ascending.specs.AscendingLaws.{ascending_none}
 use Rattle.b_values.specs.ValueLaws.{elements_ascend}
 use Rattle.b_values.specs.Values.{elements, value_cmp}

@@ -1,8 +1,7 @@
-use Rattle.std.proofs.Common.{◌≡◌, sym, subst, ap, ◌∙◌}
+use Rattle.std.proofs.Common.{sym, subst}
 use Rattle.ascending.specs.Ascending.{IsAscending}
 use Rattle.b_values.specs.ValueLaws.{elements_ascend}
 use Rattle.b_values.specs.Values.{elements, value_cmp}
-use Rattle.std.specs.List.{filter}
 use Rattle.b_relations.specs.Parts.{keeps, passes}
 use Rattle.b_relations.proofs.Results.{chosen_answer, filtered_ascends, kept_of}
 use Rattle.b_relations.proofs.restricting.restricted.Goals as goal
