@@ -34,24 +34,24 @@ not_among xs z = go (is_among xs z) (is_among_finds xs z)
 
 in_difference : (s t a : Value) → difference_row s t ≡ Ok a → (z : Value) → In z (elements a) ↔ (In z (elements s) × (In z (elements t) → ⊥))
 in_difference s t a e z = (
-  λ h. let p = (in_filter (λ x. not (is_among (elements t) x)) z (elements s)).0 ((set_with_members _ a e z).0 h) in (p.0, (not_among (elements t) z).0 p.1),
-  λ p. (set_with_members _ a e z).1 ((in_filter (λ x. not (is_among (elements t) x)) z (elements s)).1 (p.0, (not_among (elements t) z).1 p.1)),
+  λ h. let p = (in_filter (λ x. not (is_among (elements t) x)) z (elements s)).0 ((set_with_members (filter (λ x. not (is_among (elements t) x)) (elements s)) a e z).0 h) in (p.0, (not_among (elements t) z).0 p.1),
+  λ p. (set_with_members (filter (λ x. not (is_among (elements t) x)) (elements s)) a e z).1 ((in_filter (λ x. not (is_among (elements t) x)) z (elements s)).1 (p.0, (not_among (elements t) z).1 p.1)),
 )
 
 -- S - (T \/ U) is (S - T) /\ (S - U)
 pub difference_of_union : (s t u v a b : Value) → union_row t u ≡ Ok v → difference_row s t ≡ Ok a → difference_row s u ≡ Ok b → difference_row s v ≡ intersect_row a b
-difference_of_union s t u v a b e f g = set_with_same _ _ (λ z. (
+difference_of_union s t u v a b e f g = set_with_same (filter (λ x. not (is_among (elements v) x)) (elements s)) (filter (λ x. is_among (elements b) x) (elements a)) (λ z. (
   λ h.
       let p = (in_filter (λ x. not (is_among (elements v) x)) z (elements s)).0 h in
       let out = (not_among (elements v) z).0 p.1 in
-      let no_t : In z (elements t) → ⊥ = λ m. out ((set_with_members _ v e z).1 ((in_append z (elements t) (elements u)).1 (inl m))) in
-      let no_u : In z (elements u) → ⊥ = λ m. out ((set_with_members _ v e z).1 ((in_append z (elements t) (elements u)).1 (inr m))) in
+      let no_t : In z (elements t) → ⊥ = λ m. out ((set_with_members (elements t ++ elements u) v e z).1 ((in_append z (elements t) (elements u)).1 (inl m))) in
+      let no_u : In z (elements u) → ⊥ = λ m. out ((set_with_members (elements t ++ elements u) v e z).1 ((in_append z (elements t) (elements u)).1 (inr m))) in
       (in_filter (λ x. is_among (elements b) x) z (elements a)).1 ((in_difference s t a f z).1 (p.0, no_t), (is_among_finds (elements b) z).1 ((in_difference s u b g z).1 (p.0, no_u))),
   λ h.
       let p = (in_filter (λ x. is_among (elements b) x) z (elements a)).0 h in
       let in_a = (in_difference s t a f z).0 p.0 in
       let in_b = (in_difference s u b g z).0 ((is_among_finds (elements b) z).0 p.1) in
-      let no_v : In z (elements v) → ⊥ = λ m. elim ((in_append z (elements t) (elements u)).0 ((set_with_members _ v e z).0 m)) [ inl k ↦ in_a.1 k | inr k ↦ in_b.1 k ] in
+      let no_v : In z (elements v) → ⊥ = λ m. elim ((in_append z (elements t) (elements u)).0 ((set_with_members (elements t ++ elements u) v e z).0 m)) [ inl k ↦ in_a.1 k | inr k ↦ in_b.1 k ] in
       (in_filter (λ x. not (is_among (elements v) x)) z (elements s)).1 (in_a.0, (not_among (elements v) z).1 no_v),
 ))
 
