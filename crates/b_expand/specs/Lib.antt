@@ -1,0 +1,4 @@
+-- The expansion of definitions.
+pub mod Places
+pub mod Expansion
+pub mod Answers
