@@ -41,9 +41,13 @@ pub record Meaning : Type 0 where
 abbrev pub Meanings : Type 0
 Meanings = List ℕ → Option Meaning
 
--- a name that may be bound: no definition's, and no parameter of the text
-abbrev pub may_bind : List (List ℕ) → Scope → Bound → Bool
-may_bind names s x = not (is_some (position (bytes_eq x.name) names)) && not (is_some (position (bytes_eq x.name) s.params))
+-- a name that may be bound: no definition's of the table, and no parameter of the text
+abbrev pub may_bind : List Def → Scope → Bound → Bool
+may_bind table s x = not (is_some (position (λ d. bytes_eq x.name d.name) table)) && not (is_some (position (bytes_eq x.name) s.params))
+
+-- bound names under the brackets of the text, where they may be bound
+abbrev pub bound : List Def → Scope → List Bound → Option (List Bound)
+bound table s xs = if list_all (may_bind table s) xs then Some (map (deeper_bound s.round) xs) else None
 
 -- ---- trees from trees
 
@@ -134,8 +138,11 @@ trees rs s = all_of (map (λ r. r.tree s) rs)
 abbrev pub forms : List Form → Expands (List After)
 forms fs s = all_of (map (λ f. f.form s) fs)
 
+abbrev pub links : List Side → Expands (List Link)
+links ls s = all_of (map (λ l. l.link s) ls)
+
 abbrev pub chain : Reading → List Side → Expands Formula
-chain r ls s = both formula.Chain (r.tree s) (all_of (map (λ l. l.link s) ls))
+chain r ls s = both formula.Chain (r.tree s) (links ls s)
 
 -- operands between commas are arguments
 abbrev pub chain_arguments : Reading → List Side → List (Expands Formula)
@@ -154,7 +161,7 @@ abbrev pub row : Option (ℕ × Meaning) → Reading → List Form → Expands F
 row (Some m) r (f ∷ fs) s = applied m f.arguments r f fs s
 row m r fs s = both formula.Row (r.tree s) (forms fs s)
 
--- ---- readings of a tree by the table's names and what names mean
+-- ---- readings of a tree by the table and what names mean
 
 abbrev pub after_step : After-F Form Reading Side → Form
 after_step (After-F.Converse at) = record { arguments = None; form = λ s. Some (after.Converse (deeper_place s.round at)) }
@@ -168,62 +175,55 @@ link_step l = record {
   link = λ s. option_map (λ e. roll-Link (record { operator = expanded_operator l.operator; at = deeper_place s.round l.at; operand = e })) (l.operand.tree s);
 }
 
--- under a binder: its names may be bound
-abbrev pub under : List (List ℕ) → List Bound → Scope → Option Formula → Option Formula
-under names xs s o = if list_all (may_bind names s) xs then o else None
+abbrev pub formula_step : List Def → Meanings → Formula-F Form Reading Side → Reading
+formula_step table means (Formula-F.Number at k) = plain (λ s. Some (formula.Number (deeper_place s.round at) k))
+formula_step table means (Formula-F.Text at x) = plain (λ s. Some (formula.Text (deeper_place s.round at) x))
+formula_step table means (Formula-F.Name at x) = record (plain (λ s. named (means x) (tree_of s x) s at x)) { name = Some (at.depth, x) }
+formula_step table means (Formula-F.Old at x) = plain (λ s. Some (formula.Old (deeper_place s.round at) x))
+formula_step table means (Formula-F.Constant at c) = plain (λ s. Some (formula.Constant (deeper_place s.round at) c))
+formula_step table means (Formula-F.Negative at r) = plain (λ s. option_map (formula.Negative (deeper_place s.round at)) (r.tree s))
+formula_step table means (Formula-F.Chain r ls) = record (plain (chain r ls)) { arguments = chain_arguments r ls }
+formula_step table means (Formula-F.Row r fs) = plain (λ s. row (called means s r.name) r fs s)
+formula_step table means (Formula-F.Call at f rs) = plain (λ s. option_map (formula.Call (deeper_place s.round at) f) (trees rs s))
+formula_step table means (Formula-F.Set at rs) = plain (λ s. option_map (formula.Set (deeper_place s.round at)) (trees rs s))
+formula_step table means (Formula-F.Sequence at rs) = plain (λ s. option_map (formula.Sequence (deeper_place s.round at)) (trees rs s))
+formula_step table means (Formula-F.Comprehension at xs r) = plain (λ s. both (formula.Comprehension (deeper_place s.round at)) (bound table s xs) (r.tree s))
+formula_step table means (Formula-F.Quantified at q xs r) = plain (λ s. both (formula.Quantified (deeper_place s.round at) q) (bound table s xs) (r.tree s))
+formula_step table means (Formula-F.Collected at c xs q r) = plain (λ s. all_three (formula.Collected (deeper_place s.round at) c) (bound table s xs) (q.tree s) (r.tree s))
+formula_step table means (Formula-F.If at p q r) = plain (λ s. all_three (formula.If (deeper_place s.round at)) (p.tree s) (q.tree s) (r.tree s))
 
-abbrev pub formula_step : List (List ℕ) → Meanings → Formula-F Form Reading Side → Reading
-formula_step names means (Formula-F.Number at k) = plain (λ s. Some (formula.Number (deeper_place s.round at) k))
-formula_step names means (Formula-F.Text at x) = plain (λ s. Some (formula.Text (deeper_place s.round at) x))
-formula_step names means (Formula-F.Name at x) = record (plain (λ s. named (means x) (tree_of s x) s at x)) { name = Some (at.depth, x) }
-formula_step names means (Formula-F.Old at x) = plain (λ s. Some (formula.Old (deeper_place s.round at) x))
-formula_step names means (Formula-F.Constant at c) = plain (λ s. Some (formula.Constant (deeper_place s.round at) c))
-formula_step names means (Formula-F.Negative at r) = plain (λ s. option_map (formula.Negative (deeper_place s.round at)) (r.tree s))
-formula_step names means (Formula-F.Chain r ls) = record (plain (chain r ls)) { arguments = chain_arguments r ls }
-formula_step names means (Formula-F.Row r fs) = plain (λ s. row (called means s r.name) r fs s)
-formula_step names means (Formula-F.Call at f rs) = plain (λ s. option_map (formula.Call (deeper_place s.round at) f) (trees rs s))
-formula_step names means (Formula-F.Set at rs) = plain (λ s. option_map (formula.Set (deeper_place s.round at)) (trees rs s))
-formula_step names means (Formula-F.Sequence at rs) = plain (λ s. option_map (formula.Sequence (deeper_place s.round at)) (trees rs s))
-formula_step names means (Formula-F.Comprehension at xs r) = plain (λ s. under names xs s (option_map (formula.Comprehension (deeper_place s.round at) (map (deeper_bound s.round) xs)) (r.tree s)))
-formula_step names means (Formula-F.Quantified at q xs r) = plain (λ s. under names xs s (option_map (formula.Quantified (deeper_place s.round at) q (map (deeper_bound s.round) xs)) (r.tree s)))
-formula_step names means (Formula-F.Collected at c xs q r) = plain (λ s. under names xs s (both (formula.Collected (deeper_place s.round at) c (map (deeper_bound s.round) xs)) (q.tree s) (r.tree s)))
-formula_step names means (Formula-F.If at p q r) = plain (λ s. all_three (formula.If (deeper_place s.round at)) (p.tree s) (q.tree s) (r.tree s))
+abbrev pub reading : List Def → Meanings → Formula → Reading
+reading table means = fold-Formula Form Reading Side after_step (formula_step table means) link_step
 
-abbrev pub reading : List (List ℕ) → Meanings → Formula → Reading
-reading names means = fold-Formula Form Reading Side after_step (formula_step names means) link_step
+abbrev pub form_of : List Def → Meanings → After → Form
+form_of table means = fold-After Form Reading Side after_step (formula_step table means) link_step
 
-abbrev pub form_of : List (List ℕ) → Meanings → After → Form
-form_of names means = fold-After Form Reading Side after_step (formula_step names means) link_step
-
-abbrev pub side_of : List (List ℕ) → Meanings → Link → Side
-side_of names means = fold-Link Form Reading Side after_step (formula_step names means) link_step
+abbrev pub side_of : List Def → Meanings → Link → Side
+side_of table means = fold-Link Form Reading Side after_step (formula_step table means) link_step
 
 -- the tree that a tree stands for in a scope
-abbrev pub expanded : List (List ℕ) → Meanings → Scope → Formula → Option Formula
-expanded names means s t = (reading names means t).tree s
+abbrev pub expanded : List Def → Meanings → Scope → Formula → Option Formula
+expanded table means s t = (reading table means t).tree s
 
 -- ---- the table: a body knows the definitions before it, and of two definitions of a name the first counts
 
-abbrev pub names_of : List Def → List (List ℕ)
-names_of ds = map (λ d. d.name) ds
-
 -- a formula is expanded where the definition is used; a substitution is no formula
-abbrev pub meaning_of : List (List ℕ) → Meanings → List (List ℕ) → DefBody → Meaning
-meaning_of names means ps (body.Expr e) = record { params = ps; sort = sort.Expression; body = λ s. expanded names means s e.formula }
-meaning_of names means ps (body.Pred p) = record { params = ps; sort = sort.Predicate; body = λ s. expanded names means s p.formula }
-meaning_of names means ps (body.Subst u) = record { params = ps; sort = sort.Expression; body = λ s. None }
+abbrev pub meaning_of : List Def → Meanings → List (List ℕ) → DefBody → Meaning
+meaning_of table means ps (body.Expr e) = record { params = ps; sort = sort.Expression; body = λ s. expanded table means s e.formula }
+meaning_of table means ps (body.Pred p) = record { params = ps; sort = sort.Predicate; body = λ s. expanded table means s p.formula }
+meaning_of table means ps (body.Subst u) = record { params = ps; sort = sort.Expression; body = λ s. None }
 
 abbrev pub first_of : Option Meaning → Option Meaning → Option Meaning
 first_of (Some m) o = Some m
 first_of None o = o
 
 -- what names mean after one more definition
-abbrev pub with_definition : List (List ℕ) → Meanings → Def → Meanings
-with_definition names means d x = first_of (means x) (if bytes_eq x d.name then Some (meaning_of names means d.params d.body) else None)
+abbrev pub with_definition : List Def → Meanings → Def → Meanings
+with_definition table means d x = first_of (means x) (if bytes_eq x d.name then Some (meaning_of table means d.params d.body) else None)
 
 -- what names mean after some definitions
-abbrev pub meanings : List (List ℕ) → List Def → Meanings
-meanings names ds = fold (with_definition names) (λ x. None) ds
+abbrev pub meanings : List Def → List Def → Meanings
+meanings table ds = fold (with_definition table) (λ x. None) ds
 
 -- a text that stands alone
 abbrev pub alone : Scope
@@ -231,4 +231,4 @@ alone = record { round = 0; params = []; trees = [] }
 
 -- the tree that a formula stands for
 abbrev pub expansion : List Def → Formula → Option Formula
-expansion ds t = expanded (names_of ds) (meanings (names_of ds) ds) alone t
+expansion table t = expanded table (meanings table table) alone t

@@ -2,3 +2,4 @@
 pub mod Places
 pub mod Expansion
 pub mod Answers
+pub mod Standing

@@ -1,15 +1,15 @@
 //! The expanded trees of texts that may use definitions.
-ghost use Rattle.std.specs.Prelude.{◌≡◌, ◌<◌, ◌==◌, length, map, Option, Some, None, IfOk, IfSome, MatchOption, is_some, position, bytes_eq, option_and_then, option_map};
+ghost use Rattle.std.specs.Prelude.{◌≡◌, [], ◌∷◌, ◌+◌, ◌<◌, ◌≤◌, ◌==◌, not, length, map, sum, Option, Some, None, IfOk, IfSome, MatchOption, is_some, position, bytes_eq, option_and_then, option_map};
 ghost use Rattle.std.specs.Option.{option_copied};
 ghost use Rattle.std.specs.List.{list_all};
-ghost use Rattle.b_ast.specs.Sorts.{sort_of, fits};
 ghost use Rattle.b_expand.specs.Expansion as spec;
-ghost use Rattle.b_expand.specs.Standing.{scope_of, names_in, means_in, meaning_at, reading_in, form_in, side_in, tree_in};
+ghost use Rattle.b_expand.specs.Places.{node_total, nodes_of_link};
+ghost use Rattle.b_expand.specs.Standing.{scope_of, means_in, meaning_at, reading_in, form_in, side_in, tree_in, trees_in, links_in, forms_in, bound_in, called_in, row_in, arguments_in, operands_in, used_in, body_in};
 
 use crate::copies::{brackets, copied, deeper, deeper_bounds, deeper_place};
+use crate::parts;
 use b_ast::machine::{Def, DefBody};
-use b_ast::sorts::sort_of;
-use b_ast::{After, Bound, Formula, Link, Operator, Place, Sort};
+use b_ast::{After, Bound, Formula, Link, Place, Sort};
 use sqlite_items::{Boxed, Items};
 use std::alloc::{AllocError, Global};
 
@@ -52,15 +52,17 @@ fn tree_of<'a>(text: &Standing<'a>, name: &[u8]) -> Option<&'a Formula>
 }
 
 fn may_bind(text: &Standing<'_>, name: &Bound) -> bool
-    ensures { result ≡ spec.may_bind (names_in text.now) (scope_of text.now) name.now }
+    ensures { result ≡ spec.may_bind text.now.table.now (scope_of text.now) name.now }
 {
     let name = name.name.as_slice();
     definition_of(text.table, name).is_none() && place_of(text.params, name).is_none()
 }
 
-fn are_commas(links: &[Link]) -> bool
-    ensures { result ≡ list_all (λ l. spec.is_comma l.operator) (map out-Link links.now) }
+// Whether commas alone stand in a chain.
+fn are_commas(links: &[Link], text: &Standing<'_>) -> bool
+    ensures { result ≡ list_all (λ l. l.comma) (map (side_in text.now) links.now) }
 {
+    let _definitions = text.before;
     for link in links {
         if !parts::is_comma(link.operator) {
             return false;
@@ -85,7 +87,7 @@ fn bound(
 }
 
 fn may_bind_all(text: &Standing<'_>, names: &[Bound]) -> bool
-    ensures { result ≡ list_all (spec.may_bind (names_in text.now) (scope_of text.now)) names.now }
+    ensures { result ≡ list_all (spec.may_bind text.now.table.now (scope_of text.now)) names.now }
 {
     for name in names {
         if !may_bind(text, name) {
@@ -134,7 +136,50 @@ fn called(head: &Formula, text: &Standing<'_>) -> Option<(u64, usize)>
                 None => None,
             }
         }
-        _ => None,
+        Formula::Number(_, _)
+        | Formula::Text(_, _)
+        | Formula::Old(_, _)
+        | Formula::Constant(_, _)
+        | Formula::Negative(_, _)
+        | Formula::Chain(_, _)
+        | Formula::Row(_, _)
+        | Formula::Call(_, _, _)
+        | Formula::Set(_, _)
+        | Formula::Sequence(_, _)
+        | Formula::Comprehension(_, _, _)
+        | Formula::Quantified(_, _, _, _)
+        | Formula::Collected(_, _, _, _, _)
+        | Formula::If(_, _, _, _) => None,
+    }
+}
+
+// The first operand and the links of a tree that is several arguments.
+fn several<'a>(tree: &'a Formula, text: &Standing<'_>) -> Option<(&'a Formula, &'a [Link])>
+    ensures arguments { MatchOption result ((reading_in text.now tree.now).arguments ≡ (reading_in text.now tree.now).tree ∷ []) (λ r. (reading_in text.now tree.now).arguments ≡ (reading_in text.now r.0.now).tree ∷ map (λ l. l.operand) (map (side_in text.now) r.1.now)) }
+    ensures smaller { IfSome result (λ r. node_total r.0.now + sum (map nodes_of_link r.1.now) < node_total tree.now) }
+{
+    match tree {
+        Formula::Chain(first, links) => {
+            if are_commas(links.as_slice(), text) {
+                Some((first.get(), links.as_slice()))
+            } else {
+                None
+            }
+        }
+        Formula::Number(_, _)
+        | Formula::Text(_, _)
+        | Formula::Name(_, _)
+        | Formula::Old(_, _)
+        | Formula::Constant(_, _)
+        | Formula::Negative(_, _)
+        | Formula::Row(_, _)
+        | Formula::Call(_, _, _)
+        | Formula::Set(_, _)
+        | Formula::Sequence(_, _)
+        | Formula::Comprehension(_, _, _)
+        | Formula::Quantified(_, _, _, _)
+        | Formula::Collected(_, _, _, _, _)
+        | Formula::If(_, _, _, _) => None,
     }
 }
 
@@ -346,18 +391,17 @@ fn build_arguments(
 ) -> Result<Option<Items<Formula>>, AllocError>
     ensures { IfOk result (λ o. o ≡ arguments_in text.now tree.now) }
 {
-    match tree {
-        Formula::Chain(first, links) => {
-            if are_commas(links.as_slice()) {
-                let first = build(first.get(), alloc, text)?;
-                let rest = build_operands(links.as_slice(), alloc, text)?;
-                return parts::before(alloc, parts::sorted(first), rest);
-            }
+    match several(tree, text) {
+        Some((first, links)) => {
+            let first = build(first, alloc, text)?;
+            let rest = build_operands(links, alloc, text)?;
+            parts::before(alloc, parts::sorted(first), rest)
         }
-        _ => {}
+        None => {
+            let tree = build(tree, alloc, text)?;
+            parts::before(alloc, parts::sorted(tree), Some(Items::new(alloc)))
+        }
     }
-    let tree = build(tree, alloc, text)?;
-    parts::before(alloc, parts::sorted(tree), Some(Items::new(alloc)))
 }
 
 #[cycle(build)]
