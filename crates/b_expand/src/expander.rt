@@ -98,6 +98,7 @@ fn may_bind_all(text: &Standing<'_>, names: &[Bound]) -> bool
 }
 
 // The definition that a name means in a text.
+#[tactic(auto, using(crate::proofs::Naming::means_at_place))]
 fn meaning_of(text: &Standing<'_>, name: &[u8]) -> Option<usize>
     ensures value { option_and_then (meaning_at text.now) result ≡ means_in text.now name.now }
     ensures within { IfSome result (λ i. i < length text.now.before.now) }
@@ -267,6 +268,7 @@ fn build_part(
 }
 
 #[cycle(build)]
+#[tactic(auto, using(crate::proofs::Lists::joined_more, crate::proofs::Lists::joined_none, crate::proofs::Lists::joined_all, crate::proofs::Work::part_of_sum))]
 fn build_all(
     trees: &[Formula],
     alloc: Global,
@@ -283,6 +285,7 @@ fn build_all(
 }
 
 #[cycle(build)]
+#[tactic(auto, using(crate::proofs::Lists::joined_more, crate::proofs::Lists::joined_none, crate::proofs::Lists::joined_all, crate::proofs::Work::part_of_sum))]
 fn build_links(
     links: &[Link],
     alloc: Global,
@@ -301,6 +304,7 @@ fn build_links(
 }
 
 #[cycle(build)]
+#[tactic(auto, using(crate::proofs::Lists::joined_more, crate::proofs::Lists::joined_none, crate::proofs::Lists::joined_all, crate::proofs::Work::part_of_sum))]
 fn build_forms(
     forms: &[After],
     alloc: Global,
@@ -405,6 +409,7 @@ fn build_arguments(
 }
 
 #[cycle(build)]
+#[tactic(auto, using(crate::proofs::Lists::joined_more, crate::proofs::Lists::joined_none, crate::proofs::Lists::joined_all, crate::proofs::Work::part_of_sum))]
 fn build_operands(
     links: &[Link],
     alloc: Global,
@@ -438,6 +443,7 @@ fn build_used(
 }
 
 #[cycle(build)]
+#[tactic(auto, using(crate::proofs::Work::work_at))]
 fn build_use(
     i: usize,
     depth: u64,
