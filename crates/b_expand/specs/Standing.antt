@@ -1,6 +1,7 @@
 -- What the expander's record of a text says: the table, the definitions that the text may use, and its scope.
 use Rattle.std.specs.Prelude.{ℕ, List, map, take, Option, slice_get, option_map, option_and_then}
 use Rattle.b_ast.specs.declared.Bound.{Bound}
+use Rattle.b_ast.specs.declared.machine.Def.{Def}
 use Rattle.b_ast.specs.declared.machine.DefBody.{DefBody}
 use Rattle.b_ast.specs.declared.Formula.{Formula}
 use Rattle.b_ast.specs.declared.Link.{Link}
@@ -61,6 +62,10 @@ operands_in t ls = spec.all_of (map spec.sorted (map (λ a. a (scope_of t)) (map
 -- a use of the definition at a place of the table
 abbrev pub used_in : Standing → ℕ → ℕ → List Formula → Option Formula
 used_in t i depth es = option_and_then (λ m. spec.used_with depth m (scope_of t) es) (meaning_at t i)
+
+-- a use of a definition that may use some
+abbrev pub definition_in : Standing → Def → List Def → ℕ → List Formula → Option Formula
+definition_in t d ds depth es = spec.used_with depth (spec.meaning_of t.table.now (spec.meanings t.table.now ds) d.params d.body) (scope_of t) es
 
 -- the body of a definition, if it is of the declared sort
 abbrev pub body_in : Standing → DefBody → Option Formula

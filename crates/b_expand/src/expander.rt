@@ -1,10 +1,10 @@
 //! The expanded trees of texts that may use definitions.
-ghost use Rattle.std.specs.Prelude.{◌≡◌, [], ◌∷◌, ◌+◌, ◌<◌, ◌≤◌, ◌==◌, not, length, map, sum, Option, Some, None, IfOk, IfSome, MatchOption, is_some, position, bytes_eq, option_and_then, option_map};
+ghost use Rattle.std.specs.Prelude.{◌≡◌, [], ◌∷◌, ◌+◌, ◌<◌, ◌≤◌, ◌==◌, not, length, map, sum, Option, Some, None, IfOk, IfSome, IsSome, MatchOption, is_some, position, bytes_eq, option_and_then, option_map};
 ghost use Rattle.std.specs.Option.{option_copied};
 ghost use Rattle.std.specs.List.{list_all};
 ghost use Rattle.b_expand.specs.Expansion as spec;
 ghost use Rattle.b_expand.specs.Places.{node_total, nodes_of_link};
-ghost use Rattle.b_expand.specs.Standing.{scope_of, means_in, meaning_at, reading_in, form_in, side_in, tree_in, trees_in, links_in, forms_in, bound_in, called_in, row_in, arguments_in, operands_in, used_in, body_in};
+ghost use Rattle.b_expand.specs.Standing.{scope_of, means_in, meaning_at, reading_in, form_in, side_in, tree_in, trees_in, links_in, forms_in, bound_in, called_in, row_in, arguments_in, operands_in, used_in, definition_in, body_in};
 
 use crate::copies::{brackets, copied, deeper, deeper_bounds, deeper_place};
 use crate::parts;
@@ -98,10 +98,10 @@ fn may_bind_all(text: &Standing<'_>, names: &[Bound]) -> bool
 }
 
 // The definition that a name means in a text.
-#[tactic(auto, using(crate::proofs::Naming::means_at_place))]
 fn meaning_of(text: &Standing<'_>, name: &[u8]) -> Option<usize>
     ensures value { option_and_then (meaning_at text.now) result ≡ means_in text.now name.now }
     ensures within { IfSome result (λ i. i < length text.now.before.now) }
+    ensures known { IfSome result (λ i. IsSome (meaning_at text.now i)) }
 {
     definition_of(text.before, name)
 }
@@ -120,6 +120,7 @@ fn has_params(text: &Standing<'_>, i: usize) -> bool
 fn called(head: &Formula, text: &Standing<'_>) -> Option<(u64, usize)>
     ensures value { option_and_then (λ c. option_map (λ m. (c.0, m)) (meaning_at text.now c.1)) result ≡ called_in text.now head.now }
     ensures within { IfSome result (λ c. c.1 < length text.now.before.now) }
+    ensures known { IfSome result (λ c. IsSome (meaning_at text.now c.1)) }
 {
     match head {
         Formula::Name(at, x) => {
@@ -371,19 +372,55 @@ fn build_row(
 ) -> Result<Option<Formula>, AllocError>
     ensures { IfOk result (λ o. o ≡ row_in text.now head.now forms.now) }
 {
-    match (called(head, text), forms) {
-        (Some((depth, i)), [After::Apply(_, e), rest @ ..]) => {
+    match called(head, text) {
+        Some((depth, i)) => build_called(head, forms, depth, i, alloc, text),
+        None => build_plain_row(head, forms, alloc, text),
+    }
+}
+
+// A row whose head names a definition with parameters.
+#[cycle(build)]
+#[tactic(auto, using(crate::proofs::Naming::row_uses))]
+fn build_called(
+    head: &Formula,
+    forms: &[After],
+    depth: u64,
+    i: usize,
+    alloc: Global,
+    text: &Standing<'_>,
+) -> Result<Option<Formula>, AllocError>
+    requires within { i < length text.now.before.now }
+    requires known { IsSome (meaning_at text.now i) }
+    ensures { IfOk result (λ o. o ≡ spec.row (option_map (λ m. (depth, m)) (meaning_at text.now i)) (reading_in text.now head.now) (map (form_in text.now) forms.now) (scope_of text.now)) }
+{
+    match forms {
+        [After::Apply(_, e), rest @ ..] => {
             let trees = build_arguments(e, alloc, text)?;
             let used = build_used(i, depth, trees, alloc, text)?;
             let rest = build_forms(rest, alloc, text)?;
             parts::applied(alloc, used, rest)
         }
-        _ => {
-            let head = build_part(head, alloc, text)?;
-            let forms = build_forms(forms, alloc, text)?;
-            Ok(parts::row(head, forms))
-        }
+        [After::Converse(_), ..] | [After::Image(_, _), ..] | [] => build_plain_row(
+            head,
+            forms,
+            alloc,
+            text,
+        ),
     }
+}
+
+#[cycle(build)]
+fn build_plain_row(
+    head: &Formula,
+    forms: &[After],
+    alloc: Global,
+    text: &Standing<'_>,
+) -> Result<Option<Formula>, AllocError>
+    ensures { IfOk result (λ o. o ≡ spec.row None (reading_in text.now head.now) (map (form_in text.now) forms.now) (scope_of text.now)) }
+{
+    let head = build_part(head, alloc, text)?;
+    let forms = build_forms(forms, alloc, text)?;
+    Ok(parts::row(head, forms))
 }
 
 // The arguments that a tree is in the brackets of a use.
@@ -454,23 +491,36 @@ fn build_use(
     requires { i < length text.now.before.now }
     ensures { IfOk result (λ o. o ≡ used_in text.now i depth trees.now) }
 {
-    let (before, rest) = text.before.split_at(i);
-    match rest {
-        [] => Ok(None),
-        [def, ..] => {
-            if trees.len() != def.params.len() {
-                return Ok(None);
-            }
-            let inner = Standing {
-                table: text.table,
-                before,
-                round: brackets(brackets(text.round, depth), 1),
-                params: def.params.as_slice(),
-                trees,
-            };
-            build_body(&def.body, alloc, &inner)
-        }
+    let (before, _rest) = text.before.split_at(i);
+    match sqlite_items::at(text.before, i) {
+        Some(def) => build_definition(def, before, depth, trees, alloc, text),
+        None => Ok(None),
     }
+}
+
+// A use of a definition that may use those before it.
+#[cycle(build)]
+fn build_definition(
+    def: &Def,
+    before: &[Def],
+    depth: u64,
+    trees: &[Formula],
+    alloc: Global,
+    text: &Standing<'_>,
+) -> Result<Option<Formula>, AllocError>
+    ensures { IfOk result (λ o. o ≡ definition_in text.now def.now before.now depth trees.now) }
+{
+    if trees.len() != def.params.len() {
+        return Ok(None);
+    }
+    let inner = Standing {
+        table: text.table,
+        before,
+        round: brackets(brackets(text.round, depth), 1),
+        params: def.params.as_slice(),
+        trees,
+    };
+    build_body(&def.body, alloc, &inner)
 }
 
 #[cycle(build)]

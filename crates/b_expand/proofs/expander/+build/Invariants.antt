@@ -45,7 +45,7 @@ abbrev pub decreases-build_name : goal.decreases-build_name
 decreases-build_name l = 8 * work l.text.now.before.now + 6
 
 abbrev pub decreases-build_row : goal.decreases-build_row
-decreases-build_row l = 8 * (work l.text.now.before.now + (node_total l.head.now + sum (map nodes_of_after l.forms.now))) + 5
+decreases-build_row l = 8 * (work l.text.now.before.now + (node_total l.head.now + sum (map nodes_of_after l.forms.now))) + 6
 
 abbrev pub decreases-build_arguments : goal.decreases-build_arguments
 decreases-build_arguments l = 8 * (work l.text.now.before.now + node_total l.tree.now) + 3
@@ -58,3 +58,12 @@ decreases-build_use l = 8 * work l.text.now.before.now + 3
 
 abbrev pub decreases-build_body : goal.decreases-build_body
 decreases-build_body l = 8 * (work l.text.now.before.now + body_nodes l.body.now) + 2
+
+abbrev pub decreases-build_called : goal.decreases-build_called
+decreases-build_called l = 8 * (work l.text.now.before.now + (node_total l.head.now + sum (map nodes_of_after l.forms.now))) + 5
+
+abbrev pub decreases-build_plain_row : goal.decreases-build_plain_row
+decreases-build_plain_row l = 8 * (work l.text.now.before.now + (node_total l.head.now + sum (map nodes_of_after l.forms.now))) + 4
+
+abbrev pub decreases-build_definition : goal.decreases-build_definition
+decreases-build_definition l = 8 * (work l.before.now + body_nodes l.def.now.body) + 3
