@@ -1,11 +1,12 @@
 -- Of two definitions of one name the first counts.
 use borrow.Author.Tests.{ltb-false}
 use Rattle.std.proofs.Common.{◌≡◌, ℕ, zero, suc, ◌+◌, ◌<◌, ◌≤◌, Bool, true, false, not, cond, List, [], ◌∷◌, take, length, map, fold, rules, Option, Some, None, refl, sym, ap, ◌∙◌, subst, arith}
-use Rattle.std.specs.Prelude.{IsSome, IfSome, slice_get, option_map, option_and_then, bytes_eq, position, nat_lt}
+use Rattle.std.specs.Prelude.{IsSome, IfSome, IfOk, Result, slice_get, option_map, option_and_then, bytes_eq, position, nat_lt}
 use Rattle.std.specs.List.{position_or_len, prefix_len}
 use Rattle.b_ast.specs.declared.machine.Def.{Def}
 use Rattle.b_ast.specs.declared.Formula.{Formula}
-use Rattle.b_expand.specs.Expansion.{Scope, Meaning, Meanings, Reading, Form, Expands, both, all_of, sorted, used_with, row_of, applied, row, forms, first_of, with_definition, meaning_of, meanings}
+use Rattle.b_ast.specs.declared.After.{After}
+use Rattle.b_expand.specs.Expansion.{Scope, Meaning, Meanings, Reading, Form, Expands, both, all_of, sorted, used_with, row_of, applied, plain_row, row, forms, first_arguments, later_forms, first_of, with_definition, meaning_of, meanings}
 
 -- what a name means stays
 keeps : (table : List Def) (m : Meanings) (ds : List Def) (x : List ℕ) (u : Meaning) → m x ≡ Some u → fold (with_definition table) m ds x ≡ Some u
@@ -72,7 +73,30 @@ pub meant_where : (f : ℕ → Def → Meaning) (ds : List Def) (o : Option ℕ)
 meant_where f ds None h = tt
 meant_where f ds (Some i) h = meant (f i) ds i h
 
--- a use of what stands at a place
-pub row_uses : (m : Option Meaning) → IsSome m → (depth : ℕ) (s : Scope) (r : Reading) (f : Form) (args : List (Expands Formula)) → f.arguments ≡ Some args → (fs : List Form) → row (option_map (λ m. (depth, m)) m) r (f ∷ fs) s ≡ both row_of (option_and_then (λ es. option_and_then (λ m. used_with depth m s es) m) (all_of (map sorted (map (λ a. a s) args)))) (forms fs s)
-row_uses None k depth s r f args e fs = absurd (search rules)
-row_uses (Some m) k depth s r f args e fs = ap (λ a. applied (depth, m) a r f fs s) e
+-- a row whose head means a definition, and which begins with arguments, is a use of it
+row_uses : (m : Option Meaning) → IsSome m → (depth : ℕ) (s : Scope) (r : Reading) (fs : List Form) (args : List (Expands Formula)) → first_arguments fs ≡ Some args → row (option_map (λ m. (depth, m)) m) r fs s ≡ both row_of (option_and_then (λ es. option_and_then (λ m. used_with depth m s es) m) (all_of (map sorted (map (λ a. a s) args)))) (forms (later_forms fs) s)
+row_uses None k depth s r fs args e = absurd (search rules)
+row_uses (Some m) k depth s r fs args e = ap (λ a. applied (depth, m) a r fs s) e
+
+row_stays : (m : Option Meaning) (depth : ℕ) (s : Scope) (r : Reading) (fs : List Form) → first_arguments fs ≡ None → row (option_map (λ m. (depth, m)) m) r fs s ≡ plain_row r fs s
+row_stays None depth s r fs e = refl
+row_stays (Some m) depth s r fs e = ap (λ a. applied (depth, m) a r fs s) e
+
+if_ok_along : {E : Type 0} (res : Result (Option Formula) E) (x y : Option Formula) → x ≡ y → IfOk res (λ o. o ≡ x) → IfOk res (λ o. o ≡ y)
+if_ok_along res x y e h = subst (λ (z : Option Formula). IfOk res (λ o. o ≡ z)) e h
+
+-- the row of a use, from its parts
+pub row_used : {E : Type 0} (m : Option Meaning) → IsSome m → (depth : ℕ) (s : Scope) (r : Reading) (fs gs : List Form) (args : List (Expands Formula)) → first_arguments fs ≡ Some args → gs ≡ later_forms fs
+    → (es : Option (List Formula)) → es ≡ all_of (map sorted (map (λ a. a s) args))
+    → (used : Option Formula) → used ≡ option_and_then (λ es. option_and_then (λ m. used_with depth m s es) m) es
+    → (rest : Option (List After)) → rest ≡ forms gs s
+    → (res : Result (Option Formula) E) → IfOk res (λ o. o ≡ both row_of used rest) → IfOk res (λ o. o ≡ row (option_map (λ m. (depth, m)) m) r fs s)
+row_used m k depth s r fs gs args e g es h used u rest q res i =
+    let first : used ≡ option_and_then (λ es. option_and_then (λ m. used_with depth m s es) m) (all_of (map sorted (map (λ a. a s) args))) = u ∙ ap (option_and_then (λ es. option_and_then (λ m. used_with depth m s es) m)) h in
+    let second : rest ≡ forms (later_forms fs) s = q ∙ ap (λ gs. forms gs s) g in
+    if_ok_along res (both row_of used rest) (row (option_map (λ m. (depth, m)) m) r fs s)
+    (ap (λ u. both row_of u rest) first ∙ (ap (both row_of _) second ∙ sym (row_uses m k depth s r fs args e))) i
+
+-- a row whose head means a definition, and which begins without arguments, stays a row
+pub row_left : {E : Type 0} (m : Option Meaning) (depth : ℕ) (s : Scope) (r : Reading) (fs : List Form) → first_arguments fs ≡ None → (res : Result (Option Formula) E) → IfOk res (λ o. o ≡ plain_row r fs s) → IfOk res (λ o. o ≡ row (option_map (λ m. (depth, m)) m) r fs s)
+row_left m depth s r fs e res i = if_ok_along res (plain_row r fs s) (row (option_map (λ m. (depth, m)) m) r fs s) (sym (row_stays m depth s r fs e)) i

@@ -152,14 +152,26 @@ chain_arguments r ls = if list_all (λ l. l.comma) ls then r.tree ∷ map (λ l.
 abbrev pub called : Meanings → Scope → Option (ℕ × List ℕ) → Option (ℕ × Meaning)
 called means s n = option_and_then (λ n. if is_some (tree_of s n.1) then None else option_and_then (λ m. if length m.params == 0 then None else Some (n.0, m)) (means n.1)) n
 
--- a row of forms whose head is called: a use where its first form is an application
-abbrev pub applied : ℕ × Meaning → Option (List (Expands Formula)) → Reading → Form → List Form → Expands Formula
-applied m (Some args) r f fs s = both row_of (used m.0 m.1 s (map (λ a. a s) args)) (forms fs s)
-applied m None r f fs s = both formula.Row (r.tree s) (forms (f ∷ fs) s)
+-- the arguments in the first of some forms, where it is an application
+abbrev pub first_arguments : List Form → Option (List (Expands Formula))
+first_arguments [] = None
+first_arguments (f ∷ fs) = f.arguments
+
+abbrev pub later_forms : List Form → List Form
+later_forms [] = []
+later_forms (f ∷ fs) = fs
+
+abbrev pub plain_row : Reading → List Form → Expands Formula
+plain_row r fs s = both formula.Row (r.tree s) (forms fs s)
+
+-- a row whose head is called: a use where it begins with arguments
+abbrev pub applied : ℕ × Meaning → Option (List (Expands Formula)) → Reading → List Form → Expands Formula
+applied m (Some args) r fs s = both row_of (used m.0 m.1 s (map (λ a. a s) args)) (forms (later_forms fs) s)
+applied m None r fs s = plain_row r fs s
 
 abbrev pub row : Option (ℕ × Meaning) → Reading → List Form → Expands Formula
-row (Some m) r (f ∷ fs) s = applied m f.arguments r f fs s
-row m r fs s = both formula.Row (r.tree s) (forms fs s)
+row (Some m) r fs s = applied m (first_arguments fs) r fs s
+row None r fs s = plain_row r fs s
 
 -- ---- readings of a tree by the table and what names mean
 

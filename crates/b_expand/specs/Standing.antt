@@ -52,6 +52,9 @@ called_in t e = spec.called (means_in t) (scope_of t) (reading_in t e).name
 abbrev pub row_in : Standing → Formula → List After → Option Formula
 row_in t e fs = spec.row (called_in t e) (reading_in t e) (map (form_in t) fs) (scope_of t)
 
+abbrev pub plain_row_in : Standing → Formula → List After → Option Formula
+plain_row_in t e fs = spec.plain_row (reading_in t e) (map (form_in t) fs) (scope_of t)
+
 -- the arguments that a tree is, each with a sort
 abbrev pub arguments_in : Standing → Formula → Option (List Formula)
 arguments_in t e = spec.all_of (map spec.sorted (map (λ a. a (scope_of t)) (reading_in t e).arguments))

@@ -3,8 +3,9 @@ ghost use Rattle.std.specs.Prelude.{◌≡◌, [], ◌∷◌, ◌+◌, ◌<◌, 
 ghost use Rattle.std.specs.Option.{option_copied};
 ghost use Rattle.std.specs.List.{list_all};
 ghost use Rattle.b_expand.specs.Expansion as spec;
-ghost use Rattle.b_expand.specs.Places.{node_total, nodes_of_link};
-ghost use Rattle.b_expand.specs.Standing.{scope_of, means_in, meaning_at, reading_in, form_in, side_in, tree_in, trees_in, links_in, forms_in, bound_in, called_in, row_in, arguments_in, operands_in, used_in, definition_in, body_in};
+ghost use Rattle.b_expand.specs.Places as places;
+ghost use Rattle.b_expand.specs.Places.{node_total, nodes_of_link, nodes_of_after};
+ghost use Rattle.b_expand.specs.Standing.{scope_of, means_in, meaning_at, reading_in, form_in, side_in, tree_in, trees_in, links_in, forms_in, bound_in, called_in, row_in, plain_row_in, arguments_in, operands_in, used_in, definition_in, body_in};
 
 use crate::copies::{brackets, copied, deeper, deeper_bounds, deeper_place};
 use crate::parts;
@@ -155,6 +156,20 @@ fn called(head: &Formula, text: &Standing<'_>) -> Option<(u64, usize)>
     }
 }
 
+// Whether a definition has as many parameters as there are trees.
+fn takes(def: &Def, trees: &[Formula]) -> bool
+    ensures { result ≡ (length trees.now == length def.now.params) }
+{
+    trees.len() == def.params.len()
+}
+
+// How many brackets are open round the body of a definition that is used under so many.
+fn round_of_use(text: &Standing<'_>, depth: u64) -> u64
+    ensures { result ≡ places.brackets (places.brackets text.now.round depth) 1 }
+{
+    brackets(brackets(text.round, depth), 1)
+}
+
 // The first operand and the links of a tree that is several arguments.
 fn several<'a>(tree: &'a Formula, text: &Standing<'_>) -> Option<(&'a Formula, &'a [Link])>
     ensures arguments { MatchOption result ((reading_in text.now tree.now).arguments ≡ (reading_in text.now tree.now).tree ∷ []) (λ r. (reading_in text.now tree.now).arguments ≡ (reading_in text.now r.0.now).tree ∷ map (λ l. l.operand) (map (side_in text.now) r.1.now)) }
@@ -182,6 +197,21 @@ fn several<'a>(tree: &'a Formula, text: &Standing<'_>) -> Option<(&'a Formula, &
         | Formula::Quantified(_, _, _, _)
         | Formula::Collected(_, _, _, _, _)
         | Formula::If(_, _, _, _) => None,
+    }
+}
+
+// The arguments in the first of some forms, where it is an application, and the forms after it.
+fn application<'a>(forms: &'a [After], text: &Standing<'_>) -> Option<(&'a Formula, &'a [After])>
+    ensures arguments { MatchOption result (spec.first_arguments (map (form_in text.now) forms.now) ≡ None) (λ r. spec.first_arguments (map (form_in text.now) forms.now) ≡ Some (reading_in text.now r.0.now).arguments) }
+    ensures rest { IfSome result (λ r. map (form_in text.now) r.1.now ≡ spec.later_forms (map (form_in text.now) forms.now)) }
+    ensures smaller { IfSome result (λ r. node_total r.0.now + sum (map nodes_of_after r.1.now) ≤ sum (map nodes_of_after forms.now)) }
+{
+    let _definitions = text.before;
+    let (first, rest) = forms.split_first()?;
+    match first {
+        After::Apply(_, e) => Some((e, rest)),
+        After::Converse(_) => None,
+        After::Image(_, _) => None,
     }
 }
 
@@ -296,12 +326,34 @@ fn build_links(
 {
     let mut built = Some(Items::new(alloc));
     for link in links {
-        let operand = build(&link.operand, alloc, text)?;
-        let at = deeper_place(text.round, link.at);
-        let link = parts::link(link.operator, at, operand);
+        let link = build_link(link, alloc, text)?;
         built = parts::pushed(built, link)?;
     }
     Ok(built)
+}
+
+#[cycle(build)]
+fn build_link(
+    link: &Link,
+    alloc: Global,
+    text: &Standing<'_>,
+) -> Result<Option<Link>, AllocError>
+    ensures { IfOk result (λ o. o ≡ (side_in text.now link.now).link (scope_of text.now)) }
+{
+    let operand = build(&link.operand, alloc, text)?;
+    let at = deeper_place(text.round, link.at);
+    Ok(parts::link(link.operator, at, operand))
+}
+
+#[cycle(build)]
+fn build_operand(
+    link: &Link,
+    alloc: Global,
+    text: &Standing<'_>,
+) -> Result<Option<Formula>, AllocError>
+    ensures { IfOk result (λ o. o ≡ (side_in text.now link.now).operand (scope_of text.now)) }
+{
+    build(&link.operand, alloc, text)
 }
 
 #[cycle(build)]
@@ -380,7 +432,6 @@ fn build_row(
 
 // A row whose head names a definition with parameters.
 #[cycle(build)]
-#[tactic(auto, using(crate::proofs::Naming::row_uses))]
 fn build_called(
     head: &Formula,
     forms: &[After],
@@ -393,19 +444,14 @@ fn build_called(
     requires known { IsSome (meaning_at text.now i) }
     ensures { IfOk result (λ o. o ≡ spec.row (option_map (λ m. (depth, m)) (meaning_at text.now i)) (reading_in text.now head.now) (map (form_in text.now) forms.now) (scope_of text.now)) }
 {
-    match forms {
-        [After::Apply(_, e), rest @ ..] => {
+    match application(forms, text) {
+        Some((e, rest)) => {
             let trees = build_arguments(e, alloc, text)?;
             let used = build_used(i, depth, trees, alloc, text)?;
             let rest = build_forms(rest, alloc, text)?;
             parts::applied(alloc, used, rest)
         }
-        [After::Converse(_), ..] | [After::Image(_, _), ..] | [] => build_plain_row(
-            head,
-            forms,
-            alloc,
-            text,
-        ),
+        None => build_plain_row(head, forms, alloc, text),
     }
 }
 
@@ -416,7 +462,7 @@ fn build_plain_row(
     alloc: Global,
     text: &Standing<'_>,
 ) -> Result<Option<Formula>, AllocError>
-    ensures { IfOk result (λ o. o ≡ spec.row None (reading_in text.now head.now) (map (form_in text.now) forms.now) (scope_of text.now)) }
+    ensures { IfOk result (λ o. o ≡ plain_row_in text.now head.now forms.now) }
 {
     let head = build_part(head, alloc, text)?;
     let forms = build_forms(forms, alloc, text)?;
@@ -456,7 +502,7 @@ fn build_operands(
 {
     let mut built = Some(Items::new(alloc));
     for link in links {
-        let operand = build(&link.operand, alloc, text)?;
+        let operand = build_operand(link, alloc, text)?;
         built = parts::pushed(built, parts::sorted(operand))?;
     }
     Ok(built)
@@ -510,13 +556,13 @@ fn build_definition(
 ) -> Result<Option<Formula>, AllocError>
     ensures { IfOk result (λ o. o ≡ definition_in text.now def.now before.now depth trees.now) }
 {
-    if trees.len() != def.params.len() {
+    if !takes(def, trees) {
         return Ok(None);
     }
     let inner = Standing {
         table: text.table,
         before,
-        round: brackets(brackets(text.round, depth), 1),
+        round: round_of_use(text, depth),
         params: def.params.as_slice(),
         trees,
     };

@@ -30,10 +30,10 @@ abbrev pub decreases-build_all : goal.decreases-build_all
 decreases-build_all l = 8 * (work l.text.now.before.now + sum (map node_total l.trees.now)) + 2
 
 abbrev pub decreases-build_links : goal.decreases-build_links
-decreases-build_links l = 8 * (work l.text.now.before.now + sum (map nodes_of_link l.links.now)) + 2
+decreases-build_links l = 8 * (work l.text.now.before.now + sum (map nodes_of_link l.links.now)) + 3
 
 abbrev pub decreases-build_operands : goal.decreases-build_operands
-decreases-build_operands l = 8 * (work l.text.now.before.now + sum (map nodes_of_link l.links.now)) + 2
+decreases-build_operands l = 8 * (work l.text.now.before.now + sum (map nodes_of_link l.links.now)) + 3
 
 abbrev pub decreases-build_forms : goal.decreases-build_forms
 decreases-build_forms l = 8 * (work l.text.now.before.now + sum (map nodes_of_after l.forms.now)) + 3
@@ -67,3 +67,9 @@ decreases-build_plain_row l = 8 * (work l.text.now.before.now + (node_total l.he
 
 abbrev pub decreases-build_definition : goal.decreases-build_definition
 decreases-build_definition l = 8 * (work l.before.now + body_nodes l.def.now.body) + 3
+
+abbrev pub decreases-build_link : goal.decreases-build_link
+decreases-build_link l = 8 * (work l.text.now.before.now + nodes_of_link l.link.now) + 2
+
+abbrev pub decreases-build_operand : goal.decreases-build_operand
+decreases-build_operand l = 8 * (work l.text.now.before.now + nodes_of_link l.link.now) + 2
