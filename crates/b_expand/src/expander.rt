@@ -351,9 +351,10 @@ fn build_operand(
     alloc: Global,
     text: &Standing<'_>,
 ) -> Result<Option<Formula>, AllocError>
-    ensures { IfOk result (λ o. o ≡ (side_in text.now link.now).operand (scope_of text.now)) }
+    ensures { IfOk result (λ o. o ≡ spec.sorted ((side_in text.now link.now).operand (scope_of text.now))) }
 {
-    build(&link.operand, alloc, text)
+    let operand = build(&link.operand, alloc, text)?;
+    Ok(parts::sorted(operand))
 }
 
 #[cycle(build)]
@@ -503,7 +504,7 @@ fn build_operands(
     let mut built = Some(Items::new(alloc));
     for link in links {
         let operand = build_operand(link, alloc, text)?;
-        built = parts::pushed(built, parts::sorted(operand))?;
+        built = parts::pushed(built, operand)?;
     }
     Ok(built)
 }
