@@ -37,28 +37,31 @@ pub fn expand(
 ) -> Result<FormulaText, Unexpanded>
     ensures { answers.AnswersFormula defs.now.defs formula.now result }
 {
+    let table = defs.defs.as_slice();
     let text = Standing {
-        table: defs.defs.as_slice(),
-        before: defs.defs.as_slice(),
+        table,
+        before: table,
         round: 0,
         params: &[],
         trees: &[],
     };
-    let at = refused_at(formula, defs.defs.as_slice());
+    let at = refused_at(formula, table);
     match build(formula, alloc, &text) {
-        Ok(Some(tree)) => judged(tree, at),
-        Ok(None) => Err(Unexpanded::Refused(Unfit::NotASentence, at)),
+        Ok(tree) => judged(tree, at),
         Err(_) => Err(Unexpanded::Memory),
     }
 }
 
 // The text that an expanded tree is, or why it is none.
-fn judged(tree: Formula, at: u64) -> Result<FormulaText, Unexpanded>
-    ensures { answers.Answers (answers.judged (Some tree)) result }
+fn judged(tree: Option<Formula>, at: u64) -> Result<FormulaText, Unexpanded>
+    ensures { answers.Answers (answers.judged tree) result }
 {
-    match sort_of(&tree) {
+    match tree {
+        Some(tree) => match sort_of(&tree) {
+            Some(sort) => limited(tree, sort, at),
+            None => Err(Unexpanded::Refused(Unfit::NotASentence, at)),
+        },
         None => Err(Unexpanded::Refused(Unfit::NotASentence, at)),
-        Some(sort) => limited(tree, sort, at),
     }
 }
 
