@@ -32,11 +32,7 @@ pub fn copied(alloc: Global, bytes: &[u8]) -> Result<Items<u8>, AllocError>
 }
 
 /// Copies of bound names under so many more brackets.
-pub fn deeper_bounds(
-    alloc: Global,
-    names: &[Bound],
-    round: u64,
-) -> Result<Items<Bound>, AllocError>
+pub fn deeper_bounds(alloc: Global, names: &[Bound], round: u64) -> Result<Items<Bound>, AllocError>
     ensures { IfOk result (λ xs. xs ≡ map (spec.deeper_bound round) names.now) }
 {
     let mut copies = Items::new(alloc);
@@ -129,11 +125,7 @@ fn deeper_part(tree: &Formula, alloc: Global, round: u64) -> Result<Boxed<Formul
 }
 
 #[cycle(deeper)]
-fn deeper_all(
-    trees: &[Formula],
-    alloc: Global,
-    round: u64,
-) -> Result<Items<Formula>, AllocError>
+fn deeper_all(trees: &[Formula], alloc: Global, round: u64) -> Result<Items<Formula>, AllocError>
     ensures { IfOk result (λ es. es ≡ map (spec.deeper round) trees.now) }
 {
     let mut copies = Items::new(alloc);
@@ -175,13 +167,7 @@ fn deeper_form(form: &After, alloc: Global, round: u64) -> Result<After, AllocEr
 {
     match form {
         After::Converse(at) => Ok(After::Converse(deeper_place(round, *at))),
-        After::Apply(at, e) => Ok(After::Apply(
-            deeper_place(round, *at),
-            deeper(e, alloc, round)?,
-        )),
-        After::Image(at, e) => Ok(After::Image(
-            deeper_place(round, *at),
-            deeper(e, alloc, round)?,
-        )),
+        After::Apply(at, e) => Ok(After::Apply(deeper_place(round, *at), deeper(e, alloc, round)?)),
+        After::Image(at, e) => Ok(After::Image(deeper_place(round, *at), deeper(e, alloc, round)?)),
     }
 }

@@ -333,11 +333,7 @@ fn build_links(
 }
 
 #[cycle(build)]
-fn build_link(
-    link: &Link,
-    alloc: Global,
-    text: &Standing<'_>,
-) -> Result<Option<Link>, AllocError>
+fn build_link(link: &Link, alloc: Global, text: &Standing<'_>) -> Result<Option<Link>, AllocError>
     ensures { IfOk result (λ o. o ≡ (side_in text.now link.now).link (scope_of text.now)) }
 {
     let operand = build(&link.operand, alloc, text)?;
@@ -375,11 +371,7 @@ fn build_forms(
 }
 
 #[cycle(build)]
-fn build_form(
-    form: &After,
-    alloc: Global,
-    text: &Standing<'_>,
-) -> Result<Option<After>, AllocError>
+fn build_form(form: &After, alloc: Global, text: &Standing<'_>) -> Result<Option<After>, AllocError>
     ensures { IfOk result (λ o. o ≡ (form_in text.now form.now).form (scope_of text.now)) }
 {
     match form {
@@ -408,10 +400,7 @@ fn build_name(
         Some(tree) => Ok(Some(deeper(tree, alloc, brackets(1, at.depth))?)),
         None => match meaning_of(text, name) {
             Some(i) => build_use(i, at.depth, &[], alloc, text),
-            None => Ok(Some(Formula::Name(
-                deeper_place(text.round, at),
-                copied(alloc, name)?,
-            ))),
+            None => Ok(Some(Formula::Name(deeper_place(text.round, at), copied(alloc, name)?))),
         },
     }
 }

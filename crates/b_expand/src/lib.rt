@@ -16,11 +16,10 @@ use b_ast::machine::DefTable;
 use b_ast::sorts::sort_of;
 use b_ast::{Expr, Formula, FormulaText, Pred, Sort};
 use expander::{Standing, build};
+pub use faults::{ParseFault, ParseKind, Unexpanded, Unfit};
 use places::refused_at;
 use sizes::{deepest, is_within};
 use std::alloc::Global;
-
-pub use faults::{ParseFault, ParseKind, Unexpanded, Unfit};
 
 /// The greatest number of brackets that may be open at one place of an expanded text.
 pub const BRACKET_LIMIT: u64 = 100;
@@ -30,11 +29,7 @@ pub const NODE_LIMIT: u64 = 1_000_000;
 
 /// The text that a formula is once its definitions are expanded, as an expression or a predicate by its sort. A refusal
 /// has a place of the formula. It takes memory and time for the whole expanded tree, also where that is past a limit.
-pub fn expand(
-    alloc: Global,
-    defs: &DefTable,
-    formula: &Formula,
-) -> Result<FormulaText, Unexpanded>
+pub fn expand(alloc: Global, defs: &DefTable, formula: &Formula) -> Result<FormulaText, Unexpanded>
     ensures { answers.AnswersFormula defs.now.defs formula.now result }
 {
     let table = defs.defs.as_slice();

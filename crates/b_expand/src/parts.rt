@@ -7,9 +7,7 @@ ghost use Rattle.b_ast.specs.declared.Link.{roll-Link};
 ghost use Rattle.b_expand.specs.Expansion as spec;
 
 use b_ast::sorts::sort_of;
-use b_ast::{
-    After, Bound, Collector, Formula, Function, Link, Operator, Place, Quantifier, Sort,
-};
+use b_ast::{After, Bound, Collector, Formula, Function, Link, Operator, Place, Quantifier, Sort};
 use sqlite_items::{Boxed, Items};
 use std::alloc::{AllocError, Global};
 

@@ -122,12 +122,12 @@ pub fn deepest(tree: &Formula) -> u64
         Formula::Call(at, _, es) => deepest_of(at.depth, es.as_slice()),
         Formula::Set(at, es) => deepest_of(at.depth, es.as_slice()),
         Formula::Sequence(at, es) => deepest_of(at.depth, es.as_slice()),
-        Formula::Comprehension(at, xs, p) => names_depth(at.depth, xs.as_slice()).max(
-            deepest(p.get()),
-        ),
-        Formula::Quantified(at, _, xs, p) => names_depth(at.depth, xs.as_slice()).max(
-            deepest(p.get()),
-        ),
+        Formula::Comprehension(at, xs, p) => names_depth(at.depth, xs.as_slice()).max(deepest(
+            p.get(),
+        )),
+        Formula::Quantified(at, _, xs, p) => names_depth(at.depth, xs.as_slice()).max(deepest(
+            p.get(),
+        )),
         Formula::Collected(at, _, xs, p, e) => {
             let parts = deepest(p.get()).max(deepest(e.get()));
             names_depth(at.depth, xs.as_slice()).max(parts)

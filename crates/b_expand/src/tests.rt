@@ -1,9 +1,7 @@
 //! Worked rows of the expansion of definitions.
 use crate::{Unexpanded, Unfit, expand};
 use b_ast::machine::{Def, DefBody, DefTable};
-use b_ast::{
-    After, Bound, Expr, Formula, FormulaText, Function, Link, Operator, Place, Pred, Quantifier,
-};
+use b_ast::{After, Bound, Expr, Formula, FormulaText, Link, Operator, Place, Quantifier};
 use sqlite_items::{Boxed, Items};
 use std::alloc::{AllocError, Global};
 use std::test::Fail;
@@ -127,7 +125,13 @@ fn two_definitions(alloc: Global) -> Result<DefTable, AllocError> {
     let mut table = DefTable {
         defs: Items::new(alloc),
     };
-    define(alloc, &mut table, b"d", params(alloc, b"", b"")?, number(1, 0))?;
+    define(
+        alloc,
+        &mut table,
+        b"d",
+        params(alloc, b"", b"")?,
+        number(1, 0),
+    )?;
     let body = two(
         alloc,
         name(alloc, b"p", 0)?,
@@ -190,11 +194,28 @@ fn wrong_uses(rt: HostRuntime) -> Result<(), Fail> {
     assert_eq!(rt; refusal(alloc, &table, &few)?, wrong, "one argument");
     let truth = two(alloc, number(1, 0), Operator::Equal, name(alloc, b"d", 0)?)?;
     let binder = some(alloc, b"d", truth)?;
-    assert_eq!(rt; refusal(alloc, &table, &binder)?, wrong, "a definition bound");
-    let negated = two(alloc, name(alloc, b"d", 0)?, Operator::And, name(alloc, b"d", 0)?)?;
-    assert_eq!(rt; refusal(alloc, &table, &negated)?, wrong, "an expression as a predicate");
+    assert_eq!(rt;
+        refusal(alloc, &table, &binder)?,
+        wrong,
+        "a definition bound"
+    );
+    let negated = two(
+        alloc,
+        name(alloc, b"d", 0)?,
+        Operator::And,
+        name(alloc, b"d", 0)?,
+    )?;
+    assert_eq!(rt;
+        refusal(alloc, &table, &negated)?,
+        wrong,
+        "an expression as a predicate"
+    );
     let call = applied(alloc, name(alloc, b"d", 0)?, number(1, 1))?;
-    assert_eq!(rt; refusal(alloc, &table, &call)?, None, "an application of the body");
+    assert_eq!(rt;
+        refusal(alloc, &table, &call)?,
+        None,
+        "an application of the body"
+    );
     Ok(())
 }
 
@@ -205,9 +226,21 @@ fn limits(rt: HostRuntime) -> Result<(), Fail> {
         defs: Items::new(alloc),
     };
     assert_eq!(rt; refusal(alloc, &table, &number(1, 100))?, None);
-    assert_eq!(rt; refusal(alloc, &table, &number(1, 101))?, Some(Unfit::TooDeep));
-    define(alloc, &mut table, b"d", params(alloc, b"", b"")?, number(1, 0))?;
+    assert_eq!(rt;
+        refusal(alloc, &table, &number(1, 101))?,
+        Some(Unfit::TooDeep)
+    );
+    define(
+        alloc,
+        &mut table,
+        b"d",
+        params(alloc, b"", b"")?,
+        number(1, 0),
+    )?;
     assert_eq!(rt; refusal(alloc, &table, &name(alloc, b"d", 99)?)?, None);
-    assert_eq!(rt; refusal(alloc, &table, &name(alloc, b"d", 100)?)?, Some(Unfit::TooDeep));
+    assert_eq!(rt;
+        refusal(alloc, &table, &name(alloc, b"d", 100)?)?,
+        Some(Unfit::TooDeep)
+    );
     Ok(())
 }
