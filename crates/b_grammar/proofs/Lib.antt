@@ -4,3 +4,4 @@ pub mod Descent
 pub mod Deeper
 pub mod Endings
 pub mod Readings
+pub mod Enough
