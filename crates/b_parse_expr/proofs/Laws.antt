@@ -32,9 +32,11 @@ use Rattle.b_parse_expr.specs.declared.reading.Joint.{Joint}
 use Rattle.b_parse_expr.specs.declared.reading.Joint.TheVariants as joint
 use Rattle.b_parse_expr.specs.declared.reading.Content.{Content}
 use Rattle.b_parse_expr.specs.declared.reading.Content.TheVariants as content
+use Rattle.b_parse_expr.specs.declared.reading.Opener.{Opener}
+use Rattle.b_parse_expr.specs.declared.reading.Opener.TheVariants as opener
 use Rattle.b_parse_expr.specs.declared.reading.Bracket.{Bracket}
 use Rattle.b_parse_expr.specs.declared.reading.Bracket.TheVariants as bracket
-use Rattle.b_parse_expr.specs.Reading.{Stops, inside, piece, operand, whole_row, form, one_after, afters, joins, operator_if, joining, link_if, linked, links, may_link, node, chain, contents, enclosed, close_of, listing, items, marked, curly, conditional, call, named, quantified, collected, behind, behind_if, BeginsWith}
+use Rattle.b_parse_expr.specs.Reading.{Stops, inside, piece, operand, whole_row, form, one_after, afters, joins, operator_if, joining, link_if, linked, links, may_link, node, chain, contents, enclosed, close_of, listing, items, marked, curly, conditional, call, named, quantified, collected, opener_of, behind, behind_if, BeginsWith}
 use Rattle.b_parse_expr.proofs.Loops.{after_these, each_as}
 
 -- ---- stops and steps
@@ -290,15 +292,21 @@ enclosed_is depth c m ts t us e = ap (λ q. with_found q (shut m)) e ∙ shut_is
 
 -- ---- forms after an operand
 
-abbrev pub after_by : ℕ → Option Mark → Place → Read After
-after_by depth (Some sign.Converse) at = done (after.Converse at)
-after_by depth (Some sign.RoundOpen) at = made (after.Apply at) (enclosed depth (content.List operator.Comma) sign.RoundClose)
-after_by depth (Some sign.SquareOpen) at = made (after.Image at) (enclosed depth content.Inner sign.SquareClose)
-after_by depth m at = never
+pub opener_begins : (s : Lexeme) (o : Opener) → opener_of s.symbol ≡ Some o → begins_after s ≡ true
+opener_begins s o e = go s.symbol s.at e
+  where
+    go : (y : Symbol) (at : Place) → opener_of y ≡ Some o → begins_after (record { symbol = y; at = at }) ≡ true
+    go (symbol.Mark sign.Converse) at e = refl
+    go (symbol.Mark sign.RoundOpen) at e = refl
+    go (symbol.Mark sign.SquareOpen) at e = refl
+    go y at e = absurd (cc)
 
-pub after_is : (depth : ℕ) (s : Lexeme) (ts : List Lexeme) → one_after depth (s ∷ ts) ≡ after_by depth (mark_of s.symbol) s.at ts
+same_opener : (o p : Opener) → ◌≡◌ {A = Option Opener} (Some o) (Some p) → o ≡ p
+same_opener o p e = cc
+
+pub after_is : (depth : ℕ) (s : Lexeme) (o : Opener) (ts : List Lexeme) → opener_of s.symbol ≡ Some o → descent.one_after (inside depth) s ts ≡ one_after depth o s.at ts
 unfolding one_after enclosed contents
-after_is depth s ts = go s.symbol s.at
+after_is depth s o ts e = go s.symbol s.at e
   where
     apply : (at : Place) → made (λ us. after.Apply at (joined operator.Comma us)) (ended sign.RoundClose (listed (inside depth bracketed))) ts ≡ made (after.Apply at) (ended sign.RoundClose (made (joined operator.Comma) (listed (inside depth bracketed)))) ts
     apply at = twice (ended sign.RoundClose (listed (inside depth bracketed)) ts) ∙ ap (λ q. with_found q (λ x rest. Some (after.Apply at x, rest))) (sym (ended_made sign.RoundClose (joined operator.Comma) (listed (inside depth bracketed)) ts))
@@ -307,13 +315,11 @@ after_is depth s ts = go s.symbol s.at
         twice None = refl
         twice (Some p) = refl
 
-    go : (y : Symbol) (at : Place) → one_after depth (record { symbol = y; at = at } ∷ ts) ≡ after_by depth (mark_of y) at ts
-    go (symbol.Mark sign.RoundOpen) at = apply at
-    go y at = refl
-
-pub after_end : (depth : ℕ) → one_after depth [] ≡ None
-unfolding one_after
-after_end depth = refl
+    go : (y : Symbol) (at : Place) → opener_of y ≡ Some o → descent.one_after (inside depth) (record { symbol = y; at = at }) ts ≡ one_after depth o at ts
+    go (symbol.Mark sign.Converse) at e = ap (λ o. one_after depth o at ts) (same_opener opener.Converse o e)
+    go (symbol.Mark sign.RoundOpen) at e = apply at ∙ ap (λ o. one_after depth o at ts) (same_opener opener.Application o e)
+    go (symbol.Mark sign.SquareOpen) at e = ap (λ o. one_after depth o at ts) (same_opener opener.Image o e)
+    go y at e = absurd (cc)
 
 -- ---- lists in brackets
 

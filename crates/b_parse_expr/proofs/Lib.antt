@@ -1,3 +1,5 @@
 pub mod Loops
 pub mod Laws
 pub mod Naming
+pub mod Exits
+pub mod Whole

@@ -54,10 +54,10 @@ module _ {A : Type 0} (begins : Lexeme → Bool) (f : Lexeme → Read A) where
         enough = omega arith;
         shorter = omega arith;
         same =
-          e
-          ∙ ap (λ b. after_these xs (one_more b (headed f) (many begins (headed f) n) ts)) b
-          ∙ ap (λ q. after_these xs (with_found q (λ x rest. and_first x (many begins (headed f) n rest)))) k
-          ∙ one_before xs x (many begins (headed f) n us);
+            e
+            ∙ ap (λ b. after_these xs (one_more b (headed f) (many begins (headed f) n) ts)) b
+            ∙ ap (λ q. after_these xs (with_found q (λ x rest. and_first x (many begins (headed f) n rest)))) k
+            ∙ one_before xs x (many begins (headed f) n us);
       }
 
       pub goes : IsReading begins f whole from xs ts → starts begins ts ≡ true → headed f ts ≡ Some (x, us) → length us < length ts → IsReading begins f whole from (xs ++ x ∷ []) us

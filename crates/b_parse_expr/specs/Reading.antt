@@ -13,6 +13,7 @@ use Rattle.b_ast.specs.declared.Formula.{Formula}
 use Rattle.b_ast.specs.declared.Formula.TheVariants as formula
 use Rattle.b_ast.specs.declared.Link.{Link}
 use Rattle.b_ast.specs.declared.After.{After}
+use Rattle.b_ast.specs.declared.After.TheVariants as after
 use Rattle.b_grammar.specs.declared.Mark.{Mark}
 use Rattle.b_grammar.specs.declared.Mark.TheVariants as sign
 use Rattle.b_grammar.specs.declared.Symbol.{Symbol}
@@ -28,6 +29,8 @@ use Rattle.b_parse_expr.specs.declared.reading.Joint.{Joint}
 use Rattle.b_parse_expr.specs.declared.reading.Joint.TheVariants as joint
 use Rattle.b_parse_expr.specs.declared.reading.Content.{Content}
 use Rattle.b_parse_expr.specs.declared.reading.Content.TheVariants as content
+use Rattle.b_parse_expr.specs.declared.reading.Opener.{Opener}
+use Rattle.b_parse_expr.specs.declared.reading.Opener.TheVariants as opener
 use Rattle.b_parse_expr.specs.declared.reading.Bracket.{Bracket}
 use Rattle.b_parse_expr.specs.declared.reading.Bracket.TheVariants as bracket
 
@@ -65,9 +68,6 @@ whole_row depth = descent.whole_row (inside depth)
 
 unfoldable pub form : ℕ → Read Formula
 form depth = headed (descent.form (inside depth))
-
-unfoldable pub one_after : ℕ → Read After
-one_after depth = headed (descent.one_after (inside depth))
 
 unfoldable pub afters : ℕ → Read (List After)
 afters depth = each begins_after (descent.one_after (inside depth))
@@ -138,6 +138,20 @@ items depth = made grammar.items (listed (inside depth bracketed))
 
 -- ---- forms
 
+-- after an operand, by what begins the form
+unfoldable pub one_after : ℕ → Opener → Place → Read After
+one_after depth opener.Converse at = done (after.Converse at)
+one_after depth opener.Application at = made (after.Apply at) (enclosed depth (content.List operator.Comma) sign.RoundClose)
+one_after depth opener.Image at = made (after.Image at) (enclosed depth content.Inner sign.SquareClose)
+
+abbrev pub call_if : Bool → Formula → Option Formula
+call_if true t = Some t
+call_if false t = None
+
+-- a function word with as many arguments as it has
+abbrev pub call_node : Place → Function → List Formula → Option Formula
+call_node at f xs = call_if (length xs == arity f) (formula.Call at f xs)
+
 unfoldable pub marked : ℕ → Mark → Place → Read Formula
 marked depth m at = descent.marked (inside depth) m at
 
@@ -181,6 +195,25 @@ behind_if false ts = None
 abbrev pub behind : Mark → List Lexeme → Option (List Lexeme)
 behind m [] = None
 behind m (s ∷ ts) = behind_if (is_mark m (mark_of s.symbol)) ts
+
+-- what begins a form after an operand
+abbrev pub opener_of : Symbol → Option Opener
+opener_of (symbol.Mark sign.Converse) = Some opener.Converse
+opener_of (symbol.Mark sign.RoundOpen) = Some opener.Application
+opener_of (symbol.Mark sign.SquareOpen) = Some opener.Image
+opener_of y = None
+
+abbrev pub BeginsAfter : List Lexeme → Option (Opener × Place × Bor (List Lexeme)) → Type 0
+BeginsAfter ts None = starts begins_after ts ≡ false
+BeginsAfter ts (Some p) = (s : Lexeme) × (ts ≡ s ∷ p.2.now) × (s.at ≡ p.1) × (opener_of s.symbol ≡ Some p.0)
+
+abbrev pub AfterComma : List Lexeme → Option (Bor (List Lexeme)) → Type 0
+AfterComma ts None = behind sign.Comma ts ≡ None
+AfterComma ts (Some rest) = (behind sign.Comma ts ≡ Some rest.now) × (length rest.now < length ts)
+
+abbrev pub IsLoosest : List ℕ → Option (ℕ × Bor (List ℕ)) → Type 0
+IsLoosest levels None = levels ≡ []
+IsLoosest levels (Some p) = levels ≡ p.0 ∷ p.1.now
 
 -- the joint that a list begins with
 abbrev pub BeginsWith : Joint → List Lexeme → Option (Operator × Place × Bor (List Lexeme)) → Type 0

@@ -23,5 +23,9 @@ impl From<AllocError> for Unread {
 }
 
 mod names;
+mod nodes;
 mod reading;
 mod steps;
+mod trees;
+
+pub use trees::tree_of;

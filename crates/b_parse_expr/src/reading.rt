@@ -5,9 +5,12 @@ ghost use Rattle.b_parse_expr.specs.Reading as spec;
 
 use crate::Unread;
 use crate::names::{bound_names, names_to_bar};
+use crate::nodes::{
+    call_of, collected_of, comprehension_of, conditional_of, node, quantified_of, row_of,
+};
 use crate::steps::{
-    arity, begins_after, behind, close_of, is_minus, joint_at, mark_of, may_link, named, next,
-    no_tree, node, row_of,
+    after_comma, behind, close_of, is_minus, joint_at, loosest, may_link, named, next, no_tree,
+    opener_at,
 };
 use b_ast::{After, Collector, Formula, Function, Link, Operator, Place, Quantifier};
 use b_grammar::{Lexeme, Mark, Symbol};
@@ -32,6 +35,14 @@ pub enum Content {
     Part,
     /// Formulas with commas between them, as a chain of this operator.
     List(Operator),
+}
+
+/// What begins a form after an operand.
+#[derive(Clone, Copy)]
+pub enum Opener {
+    Converse,
+    Application,
+    Image,
 }
 
 #[derive(Clone, Copy)]
@@ -152,8 +163,8 @@ fn afters<'a>(
 {
     let mut all = Items::new(alloc);
     let mut rest = lexemes;
-    'forms: while begins_after(rest) {
-        let (one, further) = after(alloc, rest, depth)?;
+    while let Some((opener, at, behind)) = opener_at(rest) {
+        let (one, further) = after(alloc, behind, opener, at, depth)?;
         all.push(one)?;
         rest = further;
     }
@@ -164,28 +175,29 @@ fn afters<'a>(
 fn after<'a>(
     alloc: Global,
     lexemes: &'a [Lexeme],
+    opener: Opener,
+    at: Place,
     depth: usize,
 ) -> Result<(After, &'a [Lexeme]), Unread>
-    ensures { Reads (spec.one_after depth) lexemes.now result }
+    ensures { Reads (spec.one_after depth opener at) lexemes.now result }
 {
-    let (first, rest) = next(lexemes)?;
-    match mark_of(&first.symbol) {
-        Some(Mark::Converse) => Ok((After::Converse(first.at), rest)),
-        Some(Mark::RoundOpen) => {
+    match opener {
+        Opener::Converse => Ok((After::Converse(at), lexemes)),
+        Opener::Application => {
+            let content = Content::List(Operator::Comma);
+            let (argument, rest) = enclosed(alloc, lexemes, content, Mark::RoundClose, depth)?;
+            Ok((After::Apply(at, argument), rest))
+        }
+        Opener::Image => {
             let (argument, rest) = enclosed(
                 alloc,
-                rest,
-                Content::List(Operator::Comma),
-                Mark::RoundClose,
+                lexemes,
+                Content::Inner,
+                Mark::SquareClose,
                 depth,
             )?;
-            Ok((After::Apply(first.at, argument), rest))
+            Ok((After::Image(at, argument), rest))
         }
-        Some(Mark::SquareOpen) => {
-            let (argument, rest) = enclosed(alloc, rest, Content::Inner, Mark::SquareClose, depth)?;
-            Ok((After::Image(first.at, argument), rest))
-        }
-        _ => Err(no_tree(rest)),
     }
 }
 
@@ -228,10 +240,9 @@ fn call<'a>(
 {
     let rest = behind(lexemes, Mark::RoundOpen)?;
     let (arguments, rest) = listing(alloc, rest, Bracket::Round, depth)?;
-    if arguments.len() == arity(function) {
-        Ok((Formula::Call(at, function, arguments), rest))
-    } else {
-        Err(no_tree(rest))
+    match call_of(at, function, arguments) {
+        Some(tree) => Ok((tree, rest)),
+        None => Err(no_tree(rest)),
     }
 }
 
@@ -247,10 +258,7 @@ fn quantified<'a>(
 {
     let (names, rest) = bound_names(alloc, lexemes)?;
     let (body, rest) = enclosed(alloc, rest, Content::Inner, Mark::RoundClose, depth)?;
-    Ok((
-        Formula::Quantified(at, quantifier, names, Boxed::new(alloc, body)?),
-        rest,
-    ))
+    Ok((quantified_of(alloc, at, quantifier, names, body)?, rest))
 }
 
 #[cycle(reading)]
@@ -266,9 +274,8 @@ fn collected<'a>(
     let (names, rest) = bound_names(alloc, lexemes)?;
     let (condition, rest) = enclosed(alloc, rest, Content::Inner, Mark::Bar, depth)?;
     let (body, rest) = enclosed(alloc, rest, Content::Inner, Mark::RoundClose, depth)?;
-    let condition = Boxed::new(alloc, condition)?;
     Ok((
-        Formula::Collected(at, collector, names, condition, Boxed::new(alloc, body)?),
+        collected_of(alloc, at, collector, names, condition, body)?,
         rest,
     ))
 }
@@ -314,10 +321,7 @@ fn curly<'a>(
     match names_to_bar(alloc, lexemes) {
         Ok((names, rest)) => {
             let (body, rest) = enclosed(alloc, rest, Content::Inner, Mark::CurlyClose, depth)?;
-            Ok((
-                Formula::Comprehension(at, names, Boxed::new(alloc, body)?),
-                rest,
-            ))
+            Ok((comprehension_of(alloc, at, names, body)?, rest))
         }
         Err(Unread::Memory) => Err(Unread::Memory),
         Err(Unread::NoTree(_)) => {
@@ -339,12 +343,7 @@ fn conditional<'a>(
     let (condition, rest) = enclosed(alloc, lexemes, Content::Part, Mark::Then, depth)?;
     let (then, rest) = enclosed(alloc, rest, Content::Part, Mark::Else, depth)?;
     let (other, rest) = enclosed(alloc, rest, Content::Part, Mark::End, depth)?;
-    let condition = Boxed::new(alloc, condition)?;
-    let then = Boxed::new(alloc, then)?;
-    Ok((
-        Formula::If(at, condition, then, Boxed::new(alloc, other)?),
-        rest,
-    ))
+    Ok((conditional_of(alloc, at, condition, then, other)?, rest))
 }
 
 #[cycle(reading)]
@@ -417,7 +416,7 @@ fn items<'a>(
     let mut all = Items::new(alloc);
     let (first, mut rest) = contents(alloc, lexemes, Content::Inner, depth)?;
     all.push(first)?;
-    while let Ok(after) = behind(rest, Mark::Comma) {
+    while let Some(after) = after_comma(rest) {
         let (item, further) = contents(alloc, after, Content::Inner, depth)?;
         all.push(item)?;
         rest = further;

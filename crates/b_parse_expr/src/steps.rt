@@ -1,15 +1,15 @@
 //! Small steps of reading.
-ghost use Rattle.std.specs.Prelude.{◌≡◌, ◌≤◌, IfOk, length};
+ghost use Rattle.std.specs.Prelude.{◌≡◌, ◌≤◌, length};
 ghost use Rattle.b_grammar.specs.Grammar as grammar;
 ghost use Rattle.b_grammar.specs.Descent as descent;
 ghost use Rattle.b_parse_expr.specs.Reading as spec;
 
 use crate::Unread;
-use crate::reading::{Bracket, Joint};
-use b_ast::{After, Formula, Function, Link, Operator, Place};
+use crate::reading::{Bracket, Joint, Opener};
+use b_ast::{Formula, Link, Operator, Place};
 use b_grammar::{Lexeme, Mark, Symbol};
-use sqlite_items::{Boxed, Items};
-use std::alloc::{AllocError, Global};
+use sqlite_items::Items;
+use std::alloc::Global;
 
 /// Reading stopped before these lexemes.
 pub fn no_tree(lexemes: &[Lexeme]) -> Unread
@@ -71,17 +71,47 @@ pub fn after_dot(lexemes: &[Lexeme]) -> Result<&[Lexeme], Unread>
     behind(behind(lexemes, Mark::Dot)?, Mark::RoundOpen)
 }
 
-pub fn begins_after(lexemes: &[Lexeme]) -> bool
-    ensures { result ≡ descent.starts descent.begins_after lexemes.now }
+fn opener_of(symbol: &Symbol) -> Option<Opener>
+    ensures { result ≡ spec.opener_of symbol.now }
+{
+    match symbol {
+        Symbol::Mark(Mark::Converse) => Some(Opener::Converse),
+        Symbol::Mark(Mark::RoundOpen) => Some(Opener::Application),
+        Symbol::Mark(Mark::SquareOpen) => Some(Opener::Image),
+        _ => None,
+    }
+}
+
+/// What begins a form after an operand, if it stands at the front, its place, and what stands behind it.
+pub fn opener_at(lexemes: &[Lexeme]) -> Option<(Opener, Place, &[Lexeme])>
+    ensures { spec.BeginsAfter lexemes.now result }
 {
     match next(lexemes) {
-        Ok((first, _)) => match mark_of(&first.symbol) {
-            Some(Mark::Converse) => true,
-            Some(Mark::RoundOpen) => true,
-            Some(Mark::SquareOpen) => true,
-            _ => false,
+        Ok((first, rest)) => match opener_of(&first.symbol) {
+            Some(opener) => Some((opener, first.at, rest)),
+            None => None,
         },
-        Err(_) => false,
+        Err(_) => None,
+    }
+}
+
+/// What stands behind a comma.
+pub fn after_comma(lexemes: &[Lexeme]) -> Option<&[Lexeme]>
+    ensures { spec.AfterComma lexemes.now result }
+{
+    match behind(lexemes, Mark::Comma) {
+        Ok(rest) => Some(rest),
+        Err(_) => None,
+    }
+}
+
+/// The first of the priorities and the others.
+pub fn loosest(levels: &[u64]) -> Option<(u64, &[u64])>
+    ensures { spec.IsLoosest levels.now result }
+{
+    match levels {
+        [first, rest @ ..] => Some((*first, rest)),
+        [] => None,
     }
 }
 
@@ -135,16 +165,6 @@ fn priority(operator: Operator) -> u64
     }
 }
 
-/// How many arguments a function word has.
-pub fn arity(function: Function) -> usize
-    ensures { result ≡ grammar.arity function }
-{
-    match function {
-        Function::Prj1 | Function::Prj2 | Function::Iterate => 2,
-        _ => 1,
-    }
-}
-
 fn joining(joint: Joint, symbol: &Symbol) -> Option<Operator>
     ensures { result ≡ spec.joining joint symbol.now }
 {
@@ -181,28 +201,6 @@ pub fn may_link(joint: Joint, links: &Items<Link>) -> bool
     match joint {
         Joint::Priority(priority) => priority != 60 || links.len() < 2,
         Joint::Comma(_) => true,
-    }
-}
-
-/// A chain; one piece stands for itself.
-pub fn node(alloc: Global, first: Formula, links: Items<Link>) -> Result<Formula, AllocError>
-    ensures { IfOk result (λ t. t ≡ spec.node first links) }
-{
-    if links.is_empty() {
-        Ok(first)
-    } else {
-        Ok(Formula::Chain(Boxed::new(alloc, first)?, links))
-    }
-}
-
-/// An operand with the forms after it; without them it stands for itself.
-pub fn row_of(alloc: Global, first: Formula, afters: Items<After>) -> Result<Formula, AllocError>
-    ensures { IfOk result (λ t. t ≡ grammar.row (first, afters)) }
-{
-    if afters.is_empty() {
-        Ok(first)
-    } else {
-        Ok(Formula::Row(Boxed::new(alloc, first)?, afters))
     }
 }
 

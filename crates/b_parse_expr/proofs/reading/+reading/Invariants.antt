@@ -1,8 +1,5 @@
 use Rattle.std.proofs.Common.{◌≡◌, ◌+◌, ◌*◌, ◌≤◌, length}
-use Rattle.b_grammar.specs.Descent as descent
-use Rattle.b_parse_expr.specs.Reading as spec
-use Rattle.b_parse_expr.proofs.Loops.{IsReading}
-use Rattle.b_parse_expr.proofs.Laws.{item}
+use Rattle.b_parse_expr.proofs.Exits.{LinksRead, AftersRead, ItemsRead}
 use Rattle.b_parse_expr.proofs.reading.+reading.Given as goal
 
 -- more brackets may open, or fewer priorities are left, or a smaller part is read
@@ -61,19 +58,19 @@ abbrev pub decreases-contents : goal.decreases-contents
 decreases-contents l = 60 * l.depth + 1
 
 abbrev pub invariant-links-loop-operator : goal.invariant-links-loop-operator
-invariant-links-loop-operator l = IsReading (spec.joins l.joint) (spec.linked l.joint (spec.piece l.depth l.levels)) (spec.links l.depth l.joint l.levels l.lexemes) l.lexemes l.all l.rest
+invariant-links-loop-operator l = LinksRead l.depth l.joint l.levels l.lexemes l.all l.rest
 
 abbrev pub decreases-links-loop-operator : goal.decreases-links-loop-operator
 decreases-links-loop-operator l = length l.rest
 
-abbrev pub invariant-afters-forms : goal.invariant-afters-forms
-invariant-afters-forms l = IsReading descent.begins_after (descent.one_after (spec.inside l.depth)) (spec.afters l.depth l.lexemes) l.lexemes l.all l.rest
+abbrev pub invariant-afters-loop-opener : goal.invariant-afters-loop-opener
+invariant-afters-loop-opener l = AftersRead l.depth l.lexemes l.all l.rest
 
-abbrev pub decreases-afters-forms : goal.decreases-afters-forms
-decreases-afters-forms l = length l.rest
+abbrev pub decreases-afters-loop-opener : goal.decreases-afters-loop-opener
+decreases-afters-loop-opener l = length l.rest
 
 abbrev pub invariant-items-loop-after : goal.invariant-items-loop-after
-invariant-items-loop-after l = IsReading descent.is_comma (item l.depth) (spec.items l.depth l.lexemes) l.lexemes l.all l.rest
+invariant-items-loop-after l = ItemsRead l.depth l.lexemes l.all l.rest
 
 abbrev pub decreases-items-loop-after : goal.decreases-items-loop-after
 decreases-items-loop-after l = length l.rest

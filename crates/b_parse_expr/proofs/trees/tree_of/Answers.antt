@@ -1,0 +1,15 @@
+use Rattle.std.proofs.Common.{◌≡◌, ◌≢◌, [], sym, ap, ◌∙◌, arith, length}
+use Rattle.std.proofs.lemmas.Result.{err_from_is_err_and}
+use Rattle.b_parse_expr.proofs.Whole.{tree_stops, tree_whole, tree_left}
+use Rattle.b_parse_expr.proofs.trees.tree_of.Goals as goal
+
+pub returns-in_err-tree : goal.returns-in_err-tree
+returns-in_err-tree c =
+    let p = err_from_is_err_and c.from_residual.result c.from_residual.ensures.1 in
+    rw (p.1, p.2) (tree_stops c.args.lexemes.now c.in_err-tree.field-0.0 c.in_err-tree.ensures)
+
+pub returns-then-is_empty : goal.returns-then-is_empty
+returns-then-is_empty c = ?
+
+pub returns : goal.returns
+returns c = ?

@@ -1,0 +1,129 @@
+// The nodes at the top of the trees of texts.
+use b_ast::Formula;
+use b_grammar::symbols::lexemes;
+use b_lex::lex;
+use b_parse_expr::{Unread, tree_of};
+use std::alloc::Global;
+use std::process::Abort;
+use std::test::Fail;
+
+fn name_of(tree: &Formula) -> &'static str {
+    match tree {
+        Formula::Number(_, _) => "number",
+        Formula::Text(_, _) => "text",
+        Formula::Name(_, _) => "name",
+        Formula::Old(_, _) => "old",
+        Formula::Constant(_, _) => "constant",
+        Formula::Negative(_, _) => "negative",
+        Formula::Chain(_, _) => "chain",
+        Formula::Row(_, _) => "row",
+        Formula::Call(_, _, _) => "call",
+        Formula::Set(_, _) => "set",
+        Formula::Sequence(_, _) => "sequence",
+        Formula::Comprehension(_, _, _) => "comprehension",
+        Formula::Quantified(_, _, _, _) => "quantified",
+        Formula::Collected(_, _, _, _, _) => "collected",
+        Formula::If(_, _, _, _) => "if",
+    }
+}
+
+// How many links, forms, arguments, elements or names the node at the top has, and what its first part is.
+fn parts_of(tree: &Formula) -> (usize, &'static str) {
+    match tree {
+        Formula::Negative(_, e) => (1, name_of(e.get())),
+        Formula::Chain(e, links) => (links.len(), name_of(e.get())),
+        Formula::Row(e, forms) => (forms.len(), name_of(e.get())),
+        Formula::Call(_, _, arguments) => (arguments.len(), "-"),
+        Formula::Set(_, elements) => (elements.len(), "-"),
+        Formula::Sequence(_, elements) => (elements.len(), "-"),
+        Formula::Comprehension(_, names, p) => (names.len(), name_of(p.get())),
+        Formula::Quantified(_, _, names, p) => (names.len(), name_of(p.get())),
+        Formula::Collected(_, _, names, p, _) => (names.len(), name_of(p.get())),
+        Formula::If(_, p, _, _) => (0, name_of(p.get())),
+        _ => (0, "-"),
+    }
+}
+
+fn shown(alloc: Global, text: &[u8]) -> Result<String, Fail> {
+    let tokens = lex(alloc, text)?;
+    let all = lexemes(alloc, false, text, &tokens)?;
+    match tree_of(alloc, &all) {
+        Ok(tree) => {
+            let (count, first) = parts_of(&tree);
+            let name = name_of(&tree);
+            Ok(format!(in alloc; "{name} {count} {first}")?)
+        }
+        Err(Unread::NoTree(_)) => Ok(format!(in alloc; "none")?),
+        Err(Unread::Memory) => Err(Fail::from("no memory")),
+    }
+}
+
+// Each line has what stands at the top of a tree, and the text.
+const TREES: &str = "chain 2 number@1 - 2 - 3
+chain 1 chain@(1 - 2) - 3
+chain 1 negative@-2 ** 2
+negative 1 number@-2
+chain 1 number@2 - -3
+chain 2 chain@1 = 1 or 1 = 2 & 1 = 2
+chain 2 number@2 ** 3 ** 2
+chain 1 number@1 + 2 * 3
+collected 1 chain@%(x).(x:1..2|x)
+collected 2 chain@SIGMA(x,y).(x=y|x)
+quantified 1 chain@!x.(x = 1 => x = 2)
+row 2 name@f(1)(2)
+row 1 name@f(1,2)
+row 2 name@r~[{1}]
+comprehension 1 chain@{x | x : 1..2}
+comprehension 2 chain@{x,y | x = y}
+set 2 -@{x,y}
+set 0 -@{}
+sequence 0 -@[]
+sequence 0 -@<>
+sequence 2 -@[1,2]
+chain 2 number@(1,2,3)
+call 1 -@card(r ; s)
+call 2 -@prj1(S,T)
+if 0 chain@IF x = 1 THEN 2 ELSE 3 END
+old 0 -@x$0
+constant 0 -@TRUE
+none@1 = 2 = 3
+none@r ; s
+none@(IF TRUE = TRUE THEN r ; s ELSE t END)
+none@card(1,2)
+none@card()
+none@prj1(S)
+none@- - 1
+none@{(x) | x = 1}
+none@1 +
+none@)
+none@
+none@x y
+none@r[1,2]
+none@!x(x = 1)
+none@{1,}
+none@(1
+none@1)
+none@skip";
+
+#[test]
+fn trees(rt: HostRuntime) -> Result<(), Fail> {
+    for line in TREES.lines() {
+        let Some((want, text)) = line.split_once('@') else {
+            return Err(Fail::from("a line without a text"));
+        };
+        assert_eq!(rt; shown(rt.alloc(), text.as_bytes())?.as_str(), want, "{text}");
+    }
+    Ok(())
+}
+
+// A long chain is read by a loop.
+#[test]
+fn long_chain(rt: HostRuntime) -> Result<(), Fail> {
+    let mut text = Vec::new(rt.alloc());
+    for _ in 0..100_000 {
+        text.extend_from_slice(b"1+")?;
+    }
+    text.push(b'1')?;
+    assert_eq!(rt; shown(rt.alloc(), &text)?.as_str(), "chain 100000 number");
+    Ok(())
+}
