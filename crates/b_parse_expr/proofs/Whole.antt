@@ -1,5 +1,6 @@
 -- All lexemes are read exactly where they are a formula.
-use Rattle.std.proofs.Common.{arith, Err, ◌≡◌, ◌≢◌, ℕ, zero, suc, List, [], ◌∷◌, length, Some, None, refl, sym, ap, ◌∙◌}
+use Rattle.std.proofs.Common.{arith, Err, ◌==◌, Bool, true, false, ◌≡◌, ◌≢◌, ℕ, zero, suc, List, [], ◌∷◌, length, Some, None, refl, sym, ap, ◌∙◌}
+use Rattle.std.proofs.lemmas.Bool.{eqb-true}
 use Rattle.b_ast.specs.declared.Formula.{Formula}
 use Rattle.b_grammar.specs.declared.Lexeme.{Lexeme}
 use Rattle.b_grammar.specs.Grammar.{plain, IsFormulaText}
@@ -34,10 +35,13 @@ tree_stops ts (unread.NoTree left) h = tree_none ts h
 tree_stops ts unread.Memory h = tt
 
 -- no lexeme is left
-pub tree_whole : (ts : List Lexeme) (t : Formula) (rest : List Lexeme) → length rest ≡ 0 → piece (length ts) plain ts ≡ Some (t, rest) → IsFormulaText ts t
+pub tree_whole : (ts : List Lexeme) (t : Formula) (rest : List Lexeme) → (length rest == 0) ≡ true → piece (length ts) plain ts ≡ Some (t, rest) → IsFormulaText ts t
 tree_whole ts t [] e f = tree_found ts t [] refl f
-tree_whole ts t (s ∷ rest) e f = absurd (omega arith)
+tree_whole ts t (s ∷ rest) e f = let g : suc (length rest) ≡ 0 = eqb-true (suc (length rest)) 0 e in absurd (omega arith)
 
-pub tree_left : (ts : List Lexeme) (u : Formula) (rest : List Lexeme) (e : Unread) → (length rest ≡ 0 → ⊥) → piece (length ts) plain ts ≡ Some (u, rest) → IsTreeOf ts (Err e)
-tree_left ts u rest (unread.NoTree left) n f = tree_more ts u rest (λ e. n (ap length e)) f
+some_left : (rest : List Lexeme) → (length rest == 0) ≡ false → rest ≢ []
+some_left rest e f = let g : ◌≡◌ {A = Bool} false true = sym e ∙ ap (λ (r : List Lexeme). length r == 0) f in cc
+
+pub tree_left : (ts : List Lexeme) (u : Formula) (rest : List Lexeme) (e : Unread) → (length rest == 0) ≡ false → piece (length ts) plain ts ≡ Some (u, rest) → IsTreeOf ts (Err e)
+tree_left ts u rest (unread.NoTree left) n f = tree_more ts u rest (some_left rest n) f
 tree_left ts u rest unread.Memory n f = tt

@@ -1,8 +1,11 @@
 -- What parsing answers.
-use Rattle.std.specs.Prelude.{◌≡◌, List, Result, Ok, Err}
+use Rattle.std.specs.Prelude.{◌≡◌, ◌≤◌, ℕ, nat_lt, Bool, true, false, ◌||◌, List, [], ◌∷◌, Result, Ok, Err}
 use Rattle.b_ast.specs.declared.Formula.{Formula}
 use Rattle.b_grammar.specs.declared.Lexeme.{Lexeme}
 use Rattle.b_grammar.specs.Grammar.{IsFormulaText}
+use Rattle.b_expand.specs.declared.faults.ParseKind.TheVariants as kind
+use Rattle.b_expand.specs.declared.faults.ParseFault.{ParseFault}
+use Rattle.b_expand.specs.declared.faults.ParseFault.TheVariants as fault
 use Rattle.b_parse_expr.specs.declared.Unread.{Unread}
 use Rattle.b_parse_expr.specs.declared.Unread.TheVariants as unread
 
@@ -11,3 +14,17 @@ abbrev pub IsTreeOf : List Lexeme → Result Formula Unread → Type 0
 IsTreeOf ts (Ok t) = IsFormulaText ts t
 IsTreeOf ts (Err (unread.NoTree left)) = (t : Formula) → IsFormulaText ts t → ⊥
 IsTreeOf ts (Err unread.Memory) = Unit {0}
+
+-- more than 100 brackets are open behind some lexeme
+abbrev pub is_deep : List Lexeme → Bool
+is_deep [] = false
+is_deep (l ∷ ls) = nat_lt 100 l.at.depth || is_deep ls
+
+-- The tree of lexemes with no more than 100 open brackets; too many are refused first, then lexemes without a tree. A
+-- refusal stands before the end of the text.
+abbrev pub IsCheckedTree : List Lexeme → ℕ → Result Formula ParseFault → Type 0
+IsCheckedTree ls end (Ok t) = (is_deep ls ≡ false) × IsFormulaText ls t
+IsCheckedTree ls end (Err (fault.Refused kind.TooDeep at)) = (is_deep ls ≡ true) × (at ≤ end)
+IsCheckedTree ls end (Err (fault.Refused kind.NotASentence at)) = (is_deep ls ≡ false) × ((t : Formula) → IsFormulaText ls t → ⊥) × (at ≤ end)
+IsCheckedTree ls end (Err (fault.Refused k at)) = ⊥
+IsCheckedTree ls end (Err fault.Memory) = Unit {0}

@@ -182,6 +182,10 @@ abbrev pub IsFirst : List Lexeme → Result (Bor Lexeme × Bor (List Lexeme)) Un
 IsFirst ts (Ok p) = ts ≡ p.0.now ∷ p.1.now
 IsFirst ts (Err e) = ts ≡ []
 
+abbrev pub IsSplit : List Lexeme → Option (Bor Lexeme × Bor (List Lexeme)) → Type 0
+IsSplit ts None = ts ≡ []
+IsSplit ts (Some p) = ts ≡ p.0.now ∷ p.1.now
+
 -- what stands behind the front of a list, if that is as it must be
 abbrev pub Leaves : (List Lexeme → Option (List Lexeme)) → List Lexeme → Result (Bor (List Lexeme)) Unread → Type 0
 Leaves f ts (Ok rest) = (f ts ≡ Some rest.now) × (length rest.now < length ts)

@@ -26,6 +26,8 @@ mod names;
 mod nodes;
 mod reading;
 mod steps;
+mod texts;
 mod trees;
 
+pub use texts::tree_of_text;
 pub use trees::tree_of;

@@ -28,6 +28,16 @@ pub fn next(lexemes: &[Lexeme]) -> Result<(&Lexeme, &[Lexeme]), Unread>
     }
 }
 
+/// The first lexeme and the others, if there are some.
+pub fn split(lexemes: &[Lexeme]) -> Option<(&Lexeme, &[Lexeme])>
+    ensures { spec.IsSplit lexemes.now result }
+{
+    match lexemes {
+        [first, rest @ ..] => Some((first, rest)),
+        [] => None,
+    }
+}
+
 pub fn mark_of(symbol: &Symbol) -> Option<Mark>
     ensures { result ≡ grammar.mark_of symbol.now }
 {

@@ -1,10 +1,10 @@
 // The nodes at the top of the trees of texts.
 use b_ast::Formula;
+use b_expand::{ParseFault, ParseKind};
 use b_grammar::symbols::lexemes;
 use b_lex::lex;
-use b_parse_expr::{Unread, tree_of};
-use std::alloc::Global;
-use std::process::Abort;
+use b_parse_expr::{Unread, tree_of, tree_of_text};
+use std::alloc::{AllocError, Global};
 use std::test::Fail;
 
 fn name_of(tree: &Formula) -> &'static str {
@@ -111,7 +111,11 @@ fn trees(rt: HostRuntime) -> Result<(), Fail> {
         let Some((want, text)) = line.split_once('@') else {
             return Err(Fail::from("a line without a text"));
         };
-        assert_eq!(rt; shown(rt.alloc(), text.as_bytes())?.as_str(), want, "{text}");
+        assert_eq!(rt;
+            shown(rt.alloc(), text.as_bytes())?.as_str(),
+            want,
+            "{text}"
+        );
     }
     Ok(())
 }
@@ -125,5 +129,64 @@ fn long_chain(rt: HostRuntime) -> Result<(), Fail> {
     }
     text.push(b'1')?;
     assert_eq!(rt; shown(rt.alloc(), &text)?.as_str(), "chain 100000 number");
+    Ok(())
+}
+
+// So many brackets round 1.
+fn nested(alloc: Global, open: &str, close: &str, count: usize) -> Result<Vec<u8>, AllocError> {
+    let mut text = Vec::new(alloc);
+    for _ in 0..count {
+        text.extend_from_slice(open.as_bytes())?;
+    }
+    text.push(b'1')?;
+    for _ in 0..count {
+        text.extend_from_slice(close.as_bytes())?;
+    }
+    Ok(text)
+}
+
+// A hundred brackets may be open at one place.
+#[test]
+fn brackets(rt: HostRuntime) -> Result<(), Fail> {
+    let kinds = [
+        ("(", ")"),
+        ("{", "}"),
+        ("[", "]"),
+        ("IF 1=1 THEN ", " ELSE 1 END"),
+    ];
+    for (open, close) in kinds {
+        let most = nested(rt.alloc(), open, close, 100)?;
+        let tokens = lex(rt.alloc(), &most)?;
+        assert!(rt; tree_of_text(rt.alloc(), &most, &tokens).is_ok(), "{open}");
+        let more = nested(rt.alloc(), open, close, 101)?;
+        let tokens = lex(rt.alloc(), &more)?;
+        let answer = tree_of_text(rt.alloc(), &more, &tokens);
+        let deep = matches!(
+            &answer,
+            Err(ParseFault::Refused {
+                kind: ParseKind::TooDeep,
+                at: _
+            })
+        );
+        assert!(rt; deep, "{open}");
+    }
+    Ok(())
+}
+
+// A refusal stands where reading stopped.
+#[test]
+fn places(rt: HostRuntime) -> Result<(), Fail> {
+    let cases: [(&[u8], u64); 3] = [(b"x y", 2), (b"1 +", 3), (b"(1", 2)];
+    for (text, want) in cases {
+        let tokens = lex(rt.alloc(), text)?;
+        let answer = tree_of_text(rt.alloc(), text, &tokens);
+        match answer {
+            Err(ParseFault::Refused { kind, at }) => {
+                assert_eq!(rt; kind, ParseKind::NotASentence);
+                assert_eq!(rt; at, want);
+            }
+            _ => return Err(Fail::from("it is read")),
+        }
+    }
     Ok(())
 }

@@ -1,0 +1,78 @@
+//! The tree of a text, before its definitions are expanded.
+ghost use Rattle.std.specs.Prelude.{◌≡◌, ◌≤◌, length, min, is_some};
+ghost use Rattle.b_lex.specs.Reading.{AreSpans};
+ghost use Rattle.b_grammar.specs.Symbols as symbols;
+ghost use Rattle.b_expand.specs.declared.faults.ParseFault.TheVariants as fault;
+ghost use Rattle.b_parse_expr.specs.Parsing as spec;
+
+use crate::steps::split;
+use crate::{Unread, tree_of};
+use b_ast::Formula;
+use b_expand::{ParseFault, ParseKind};
+use b_grammar::Lexeme;
+use b_grammar::symbols::lexemes;
+use b_lex::Token;
+use std::alloc::Global;
+
+// How many brackets may be open at one place.
+const MOST_OPEN: u64 = 100;
+
+// The place of the first lexeme behind which more brackets are open.
+fn first_deep(lexemes: &[Lexeme]) -> Option<u64>
+    ensures { is_some result ≡ spec.is_deep lexemes.now }
+{
+    let mut left = lexemes;
+    while let Some((lexeme, rest)) = split(left) {
+        if lexeme.at.depth > MOST_OPEN {
+            return Some(lexeme.at.at);
+        }
+        left = rest;
+    }
+    None
+}
+
+// A refusal at this place, or at the end of the text.
+fn refused(kind: ParseKind, at: u64, end: u64) -> ParseFault
+    ensures { result ≡ fault.Refused kind (min at end) }
+{
+    ParseFault::Refused {
+        kind,
+        at: at.min(end),
+    }
+}
+
+// The place of the lexeme behind which so many are left, or the end of the text.
+fn place_before(lexemes: &[Lexeme], left: usize, end: u64) -> u64 {
+    match lexemes.get(lexemes.len().saturating_sub(left)) {
+        Some(lexeme) => lexeme.at.at,
+        None => end,
+    }
+}
+
+fn checked_tree(alloc: Global, lexemes: &[Lexeme], end: u64) -> Result<Formula, ParseFault>
+    ensures { spec.IsCheckedTree lexemes.now end result }
+{
+    if let Some(at) = first_deep(lexemes) {
+        return Err(refused(ParseKind::TooDeep, at, end));
+    }
+    match tree_of(alloc, lexemes) {
+        Ok(tree) => Ok(tree),
+        Err(Unread::Memory) => Err(ParseFault::Memory),
+        Err(Unread::NoTree(left)) => Err(refused(
+            ParseKind::NotASentence,
+            place_before(lexemes, left, end),
+            end,
+        )),
+    }
+}
+
+/// The tree of a formula's text as it stands, with uses of definitions as names and applications.
+pub fn tree_of_text(alloc: Global, text: &[u8], tokens: &[Token]) -> Result<Formula, ParseFault>
+    requires { AreSpans 0 (length text.now) tokens.now }
+    ensures { spec.IsCheckedTree (symbols.lexemes false text.now tokens.now) (length text.now) result }
+{
+    match lexemes(alloc, false, text, tokens) {
+        Ok(all) => checked_tree(alloc, &all, text.len() as u64),
+        Err(_) => Err(ParseFault::Memory),
+    }
+}
