@@ -1,19 +1,12 @@
--- What parsing answers.
-use Rattle.std.specs.Prelude.{◌≡◌, ◌≤◌, ℕ, nat_lt, Bool, true, false, ◌||◌, List, [], ◌∷◌, Result, Ok, Err}
+-- The tree of a text, before its definitions are expanded.
+use Rattle.std.specs.Prelude.{◌≡◌, ◌≤◌, ℕ, nat_lt, Bool, true, false, ◌||◌, List, [], ◌∷◌, Option, Some, None, Result, Ok, Err}
+use denote.Ref.{Bor}
 use Rattle.b_ast.specs.declared.Formula.{Formula}
 use Rattle.b_grammar.specs.declared.Lexeme.{Lexeme}
 use Rattle.b_grammar.specs.Grammar.{IsFormulaText}
 use Rattle.b_expand.specs.declared.faults.ParseKind.TheVariants as kind
 use Rattle.b_expand.specs.declared.faults.ParseFault.{ParseFault}
 use Rattle.b_expand.specs.declared.faults.ParseFault.TheVariants as fault
-use Rattle.b_parse_expr.specs.declared.Unread.{Unread}
-use Rattle.b_parse_expr.specs.declared.Unread.TheVariants as unread
-
--- the tree that the grammar has for a list of lexemes, or that it has none, unless memory ran out
-abbrev pub IsTreeOf : List Lexeme → Result Formula Unread → Type 0
-IsTreeOf ts (Ok t) = IsFormulaText ts t
-IsTreeOf ts (Err (unread.NoTree left)) = (t : Formula) → IsFormulaText ts t → ⊥
-IsTreeOf ts (Err unread.Memory) = Unit {0}
 
 -- more than 100 brackets are open behind some lexeme
 abbrev pub is_deep : List Lexeme → Bool
@@ -28,3 +21,8 @@ IsCheckedTree ls end (Err (fault.Refused kind.TooDeep at)) = (is_deep ls ≡ tru
 IsCheckedTree ls end (Err (fault.Refused kind.NotASentence at)) = (is_deep ls ≡ false) × ((t : Formula) → IsFormulaText ls t → ⊥) × (at ≤ end)
 IsCheckedTree ls end (Err (fault.Refused k at)) = ⊥
 IsCheckedTree ls end (Err fault.Memory) = Unit {0}
+
+-- the first lexeme and the others
+abbrev pub IsSplit : List Lexeme → Option (Bor Lexeme × Bor (List Lexeme)) → Type 0
+IsSplit ts None = ts ≡ []
+IsSplit ts (Some p) = ts ≡ p.0.now ∷ p.1.now

@@ -1,21 +1,30 @@
 //! The tree of a text, before its definitions are expanded.
-ghost use Rattle.std.specs.Prelude.{◌≡◌, ◌≤◌, length, min, is_some};
+ghost use Rattle.std.specs.Prelude.{false, ◌≡◌, ◌≤◌, length, min, is_some};
 ghost use Rattle.b_lex.specs.Reading.{AreSpans};
 ghost use Rattle.b_grammar.specs.Symbols as symbols;
 ghost use Rattle.b_expand.specs.declared.faults.ParseFault.TheVariants as fault;
 ghost use Rattle.b_parse_expr.specs.Parsing as spec;
 
-use crate::steps::split;
-use crate::{Unread, tree_of};
 use b_ast::Formula;
 use b_expand::{ParseFault, ParseKind};
 use b_grammar::Lexeme;
 use b_grammar::symbols::lexemes;
 use b_lex::Token;
+use b_read_expr::{Unread, tree_of};
 use std::alloc::Global;
 
 // How many brackets may be open at one place.
 const MOST_OPEN: u64 = 100;
+
+// The first lexeme and the others, if there are some.
+fn split(lexemes: &[Lexeme]) -> Option<(&Lexeme, &[Lexeme])>
+    ensures { spec.IsSplit lexemes.now result }
+{
+    match lexemes {
+        [first, rest @ ..] => Some((first, rest)),
+        [] => None,
+    }
+}
 
 // The place of the first lexeme behind which more brackets are open.
 fn first_deep(lexemes: &[Lexeme]) -> Option<u64>
@@ -31,8 +40,8 @@ fn first_deep(lexemes: &[Lexeme]) -> Option<u64>
     None
 }
 
-// A refusal at this place, or at the end of the text.
-fn refused(kind: ParseKind, at: u64, end: u64) -> ParseFault
+/// A refusal at this place, or at the end of the text.
+pub fn refused(kind: ParseKind, at: u64, end: u64) -> ParseFault
     ensures { result ≡ fault.Refused kind (min at end) }
 {
     ParseFault::Refused {

@@ -2,7 +2,7 @@
 ghost use Rattle.std.specs.Prelude.{◌≡◌, IfOk};
 ghost use Rattle.b_ast.specs.declared.Formula.TheVariants as formula;
 ghost use Rattle.b_grammar.specs.Grammar as grammar;
-ghost use Rattle.b_parse_expr.specs.Reading as spec;
+ghost use Rattle.b_read_expr.specs.Reading as spec;
 
 use b_ast::{After, Bound, Collector, Formula, Function, Link, Place, Quantifier};
 use sqlite_items::{Boxed, Items};

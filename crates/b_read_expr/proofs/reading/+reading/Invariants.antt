@@ -1,6 +1,6 @@
 use Rattle.std.proofs.Common.{◌≡◌, ◌+◌, ◌*◌, ◌≤◌, length}
-use Rattle.b_parse_expr.proofs.Exits.{LinksRead, AftersRead, ItemsRead}
-use Rattle.b_parse_expr.proofs.reading.+reading.Given as goal
+use Rattle.b_read_expr.proofs.Exits.{LinksRead, AftersRead, ItemsRead}
+use Rattle.b_read_expr.proofs.reading.+reading.Given as goal
 
 -- more brackets may open, or fewer priorities are left, or a smaller part is read
 abbrev pub decreases-formula : goal.decreases-formula

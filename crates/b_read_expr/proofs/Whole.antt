@@ -8,10 +8,10 @@ use Rattle.b_grammar.specs.Descent.{Read, reads_formula}
 use Rattle.b_grammar.proofs.Ways.{same_found}
 use Rattle.b_grammar.proofs.Descent.{all_read, is_read}
 use Rattle.b_grammar.proofs.Enough.{few_open}
-use Rattle.b_parse_expr.specs.declared.Unread.{Unread}
-use Rattle.b_parse_expr.specs.declared.Unread.TheVariants as unread
-use Rattle.b_parse_expr.specs.Reading.{Stops, inside, piece}
-use Rattle.b_parse_expr.specs.Parsing.{IsTreeOf}
+use Rattle.b_read_expr.specs.declared.Unread.{Unread}
+use Rattle.b_read_expr.specs.declared.Unread.TheVariants as unread
+use Rattle.b_read_expr.specs.Reading.{Stops, inside, piece}
+use Rattle.b_read_expr.specs.Answers.{IsTreeOf}
 
 piece_is : (depth : ℕ) (ts : List Lexeme) → piece depth plain ts ≡ reads_formula depth plain ts
 unfolding piece inside reads_formula

@@ -1,8 +1,8 @@
 use Rattle.std.proofs.Common.{◌≡◌, ◌∙◌, rules, arith, ap, length}
 use Rattle.b_ast.specs.declared.Formula.TheVariants as formula
-use Rattle.b_parse_expr.specs.Reading as spec
-use Rattle.b_parse_expr.proofs.Laws.{named_old, named_plain}
-use Rattle.b_parse_expr.proofs.steps.named.Goals as goal
+use Rattle.b_read_expr.specs.Reading as spec
+use Rattle.b_read_expr.proofs.Laws.{named_old, named_plain}
+use Rattle.b_read_expr.proofs.steps.named.Goals as goal
 
 pub returns-in-Ok : goal.returns-in-Ok
 returns-in-Ok c =

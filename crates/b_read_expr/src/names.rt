@@ -1,7 +1,7 @@
 //! Bound names.
 ghost use Rattle.std.specs.Prelude.{◌≡◌, ◌≤◌, length};
 ghost use Rattle.b_grammar.specs.Grammar as grammar;
-ghost use Rattle.b_parse_expr.specs.Reading as spec;
+ghost use Rattle.b_read_expr.specs.Reading as spec;
 
 use crate::Unread;
 use crate::steps::{after_dot, mark_of, next, no_tree};

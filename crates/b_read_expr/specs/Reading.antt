@@ -23,16 +23,16 @@ use Rattle.b_grammar.specs.Grammar.{priority, plain, bracketed, may_chain, arity
 use Rattle.b_grammar.specs.Grammar as grammar
 use Rattle.b_grammar.specs.Descent as descent
 use Rattle.b_grammar.specs.Descent.{Found, Read, with_found, never, done, headed, shut, ended, pair, each, made, such, or_else, cut_at, chained, has_priority, listed, is_comma, next, begins_after, after_names, is_mark, starts, reads_formula}
-use Rattle.b_parse_expr.specs.declared.Unread.{Unread}
-use Rattle.b_parse_expr.specs.declared.Unread.TheVariants as unread
-use Rattle.b_parse_expr.specs.declared.reading.Joint.{Joint}
-use Rattle.b_parse_expr.specs.declared.reading.Joint.TheVariants as joint
-use Rattle.b_parse_expr.specs.declared.reading.Content.{Content}
-use Rattle.b_parse_expr.specs.declared.reading.Content.TheVariants as content
-use Rattle.b_parse_expr.specs.declared.reading.Opener.{Opener}
-use Rattle.b_parse_expr.specs.declared.reading.Opener.TheVariants as opener
-use Rattle.b_parse_expr.specs.declared.reading.Bracket.{Bracket}
-use Rattle.b_parse_expr.specs.declared.reading.Bracket.TheVariants as bracket
+use Rattle.b_read_expr.specs.declared.Unread.{Unread}
+use Rattle.b_read_expr.specs.declared.Unread.TheVariants as unread
+use Rattle.b_read_expr.specs.declared.reading.Joint.{Joint}
+use Rattle.b_read_expr.specs.declared.reading.Joint.TheVariants as joint
+use Rattle.b_read_expr.specs.declared.reading.Content.{Content}
+use Rattle.b_read_expr.specs.declared.reading.Content.TheVariants as content
+use Rattle.b_read_expr.specs.declared.reading.Opener.{Opener}
+use Rattle.b_read_expr.specs.declared.reading.Opener.TheVariants as opener
+use Rattle.b_read_expr.specs.declared.reading.Bracket.{Bracket}
+use Rattle.b_read_expr.specs.declared.reading.Bracket.TheVariants as bracket
 
 -- ---- what a function answers
 
@@ -181,10 +181,6 @@ collected depth c at ts =
 abbrev pub IsFirst : List Lexeme → Result (Bor Lexeme × Bor (List Lexeme)) Unread → Type 0
 IsFirst ts (Ok p) = ts ≡ p.0.now ∷ p.1.now
 IsFirst ts (Err e) = ts ≡ []
-
-abbrev pub IsSplit : List Lexeme → Option (Bor Lexeme × Bor (List Lexeme)) → Type 0
-IsSplit ts None = ts ≡ []
-IsSplit ts (Some p) = ts ≡ p.0.now ∷ p.1.now
 
 -- what stands behind the front of a list, if that is as it must be
 abbrev pub Leaves : (List Lexeme → Option (List Lexeme)) → List Lexeme → Result (Bor (List Lexeme)) Unread → Type 0

@@ -20,19 +20,19 @@ use Rattle.b_grammar.specs.Grammar as grammar
 use Rattle.b_grammar.specs.Grammar.{arity, mark_of, bound_names, is_minus, link}
 use Rattle.b_grammar.specs.Descent as descent
 use Rattle.b_grammar.specs.Descent.{Found, Read, with_found, headed, closed, starts, each, made, begins_after, is_comma}
-use Rattle.b_parse_expr.specs.declared.Unread.{Unread}
-use Rattle.b_parse_expr.specs.declared.Unread.TheVariants as unread
-use Rattle.b_parse_expr.specs.declared.reading.Joint.{Joint}
-use Rattle.b_parse_expr.specs.declared.reading.Joint.TheVariants as joint
-use Rattle.b_parse_expr.specs.declared.reading.Content.{Content}
-use Rattle.b_parse_expr.specs.declared.reading.Content.TheVariants as content
-use Rattle.b_parse_expr.specs.declared.reading.Opener.{Opener}
-use Rattle.b_parse_expr.specs.declared.reading.Opener.TheVariants as opener
-use Rattle.b_parse_expr.specs.declared.reading.Bracket.{Bracket}
-use Rattle.b_parse_expr.specs.declared.reading.Bracket.TheVariants as bracket
-use Rattle.b_parse_expr.specs.Reading.{Stops, Reads, inside, piece, operand, whole_row, form, one_after, afters, joins, linked, links, may_link, node, chain, contents, enclosed, close_of, listing, items, marked, conditional, call, call_if, call_node, collected, behind, BeginsWith, BeginsAfter}
-use Rattle.b_parse_expr.proofs.Loops.{IsReading, begin, begin_after, ends, fails, goes, after_these}
-use Rattle.b_parse_expr.proofs.Laws.{stops_on, and_rest, completed, piece_alone, piece_chain, chain_is, joint_starts, link_none, link_found, operand_minus, operand_plain, operand_end, row_is, contents_none, in_bracket, contents_deeper, enclosed_is, after_is, opener_begins, item, items_is, comma_starts, comma_stops, item_is, listing_is, form_end, form_by, form_is, call_is, collected_is, conditional_is, marked_by, marked_is}
+use Rattle.b_read_expr.specs.declared.Unread.{Unread}
+use Rattle.b_read_expr.specs.declared.Unread.TheVariants as unread
+use Rattle.b_read_expr.specs.declared.reading.Joint.{Joint}
+use Rattle.b_read_expr.specs.declared.reading.Joint.TheVariants as joint
+use Rattle.b_read_expr.specs.declared.reading.Content.{Content}
+use Rattle.b_read_expr.specs.declared.reading.Content.TheVariants as content
+use Rattle.b_read_expr.specs.declared.reading.Opener.{Opener}
+use Rattle.b_read_expr.specs.declared.reading.Opener.TheVariants as opener
+use Rattle.b_read_expr.specs.declared.reading.Bracket.{Bracket}
+use Rattle.b_read_expr.specs.declared.reading.Bracket.TheVariants as bracket
+use Rattle.b_read_expr.specs.Reading.{Stops, Reads, inside, piece, operand, whole_row, form, one_after, afters, joins, linked, links, may_link, node, chain, contents, enclosed, close_of, listing, items, marked, conditional, call, call_if, call_node, collected, behind, BeginsWith, BeginsAfter}
+use Rattle.b_read_expr.proofs.Loops.{IsReading, begin, begin_after, ends, fails, goes, after_these}
+use Rattle.b_read_expr.proofs.Laws.{stops_on, and_rest, completed, piece_alone, piece_chain, chain_is, joint_starts, link_none, link_found, operand_minus, operand_plain, operand_end, row_is, contents_none, in_bracket, contents_deeper, enclosed_is, after_is, opener_begins, item, items_is, comma_starts, comma_stops, item_is, listing_is, form_end, form_by, form_is, call_is, collected_is, conditional_is, marked_by, marked_is}
 
 -- ---- in general
 

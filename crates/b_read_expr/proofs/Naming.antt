@@ -8,8 +8,8 @@ use Rattle.b_grammar.specs.declared.Symbol.{Symbol}
 use Rattle.b_grammar.specs.declared.Symbol.TheVariants as symbol
 use Rattle.b_grammar.specs.declared.Lexeme.{Lexeme}
 use Rattle.b_grammar.specs.Grammar.{mark_of, Names, with_name, and_name, named, to_bar_after, to_dot_after, after_dot, names_to_bar, names_to_dot, bound_names}
-use Rattle.b_parse_expr.specs.Reading.{and_mark, name_and_mark}
-use Rattle.b_parse_expr.proofs.Loops.{after_these}
+use Rattle.b_read_expr.specs.Reading.{and_mark, name_and_mark}
+use Rattle.b_read_expr.proofs.Loops.{after_these}
 
 named_before : (xs : List Bound) (b : Bound) (q : Names) → after_these xs (and_name b q) ≡ after_these (xs ++ b ∷ []) q
 named_before xs b None = refl

@@ -26,18 +26,18 @@ use Rattle.b_grammar.specs.Descent as descent
 use Rattle.b_grammar.specs.Descent.{Found, Read, with_found, never, done, headed, is_mark, closed, shut, ended, pair, starts, each, made, or_else, has_priority, listed, is_comma, begins_after, after_names, reads_formula}
 use Rattle.b_grammar.proofs.Ways.{mark_named}
 use Rattle.b_grammar.proofs.Descent.{formula_none}
-use Rattle.b_parse_expr.specs.declared.Unread.{Unread}
-use Rattle.b_parse_expr.specs.declared.Unread.TheVariants as unread
-use Rattle.b_parse_expr.specs.declared.reading.Joint.{Joint}
-use Rattle.b_parse_expr.specs.declared.reading.Joint.TheVariants as joint
-use Rattle.b_parse_expr.specs.declared.reading.Content.{Content}
-use Rattle.b_parse_expr.specs.declared.reading.Content.TheVariants as content
-use Rattle.b_parse_expr.specs.declared.reading.Opener.{Opener}
-use Rattle.b_parse_expr.specs.declared.reading.Opener.TheVariants as opener
-use Rattle.b_parse_expr.specs.declared.reading.Bracket.{Bracket}
-use Rattle.b_parse_expr.specs.declared.reading.Bracket.TheVariants as bracket
-use Rattle.b_parse_expr.specs.Reading.{Stops, inside, piece, operand, whole_row, form, one_after, afters, joins, operator_if, joining, link_if, linked, links, may_link, node, chain, contents, enclosed, close_of, listing, items, marked, curly, conditional, call, named, quantified, collected, opener_of, behind, behind_if, BeginsWith}
-use Rattle.b_parse_expr.proofs.Loops.{after_these, each_as}
+use Rattle.b_read_expr.specs.declared.Unread.{Unread}
+use Rattle.b_read_expr.specs.declared.Unread.TheVariants as unread
+use Rattle.b_read_expr.specs.declared.reading.Joint.{Joint}
+use Rattle.b_read_expr.specs.declared.reading.Joint.TheVariants as joint
+use Rattle.b_read_expr.specs.declared.reading.Content.{Content}
+use Rattle.b_read_expr.specs.declared.reading.Content.TheVariants as content
+use Rattle.b_read_expr.specs.declared.reading.Opener.{Opener}
+use Rattle.b_read_expr.specs.declared.reading.Opener.TheVariants as opener
+use Rattle.b_read_expr.specs.declared.reading.Bracket.{Bracket}
+use Rattle.b_read_expr.specs.declared.reading.Bracket.TheVariants as bracket
+use Rattle.b_read_expr.specs.Reading.{Stops, inside, piece, operand, whole_row, form, one_after, afters, joins, operator_if, joining, link_if, linked, links, may_link, node, chain, contents, enclosed, close_of, listing, items, marked, curly, conditional, call, named, quantified, collected, opener_of, behind, behind_if, BeginsWith}
+use Rattle.b_read_expr.proofs.Loops.{after_these, each_as}
 
 -- ---- stops and steps
 

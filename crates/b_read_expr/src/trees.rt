@@ -1,5 +1,5 @@
 //! The tree of a list of lexemes.
-ghost use Rattle.b_parse_expr.specs.Parsing as spec;
+ghost use Rattle.b_read_expr.specs.Answers as spec;
 
 use crate::Unread;
 use crate::reading::{PLAIN, formula};

@@ -1,7 +1,7 @@
 use Rattle.std.proofs.Common.{◌≡◌, sym}
 use Rattle.std.proofs.lemmas.Result.{err_from_is_err_and}
-use Rattle.b_parse_expr.proofs.Whole.{tree_stops, tree_whole, tree_left}
-use Rattle.b_parse_expr.proofs.trees.tree_of.Goals as goal
+use Rattle.b_read_expr.proofs.Whole.{tree_stops, tree_whole, tree_left}
+use Rattle.b_read_expr.proofs.trees.tree_of.Goals as goal
 
 pub returns-in_err-tree : goal.returns-in_err-tree
 returns-in_err-tree c =
@@ -11,5 +11,5 @@ returns-in_err-tree c =
 pub returns-then-is_empty : goal.returns-then-is_empty
 returns-then-is_empty c = tree_whole c.args.lexemes.now c.in_ok-tree.tree c.in_ok-tree.rest.now (sym c.if-is_empty.ensures) c.in_ok-tree.ensures.0
 
-pub returns : goal.returns
-returns c = tree_left c.args.lexemes.now c.in_ok-tree.tree c.in_ok-tree.rest.now c.no_tree.result (sym c.if-is_empty.ensures) c.in_ok-tree.ensures.0
+pub returns-else-is_empty : goal.returns-else-is_empty
+returns-else-is_empty c = tree_left c.args.lexemes.now c.in_ok-tree.tree c.in_ok-tree.rest.now c.no_tree.result (sym c.if-is_empty.ensures) c.in_ok-tree.ensures.0

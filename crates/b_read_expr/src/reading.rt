@@ -1,7 +1,7 @@
 //! Reading by descent. `depth` says how many brackets may open yet.
 ghost use Rattle.std.specs.Prelude.{◌≡◌, ◌≤◌, length};
-ghost use Rattle.b_parse_expr.specs.Reading.{Reads};
-ghost use Rattle.b_parse_expr.specs.Reading as spec;
+ghost use Rattle.b_read_expr.specs.Reading.{Reads};
+ghost use Rattle.b_read_expr.specs.Reading as spec;
 
 use crate::Unread;
 use crate::names::{bound_names, names_to_bar};
@@ -68,15 +68,15 @@ pub fn formula<'a>(
 ) -> Result<(Formula, &'a [Lexeme]), Unread>
     ensures { Reads (spec.piece depth levels.now) lexemes.now result }
 {
-    match levels {
-        [priority, tighter @ ..] => chain(
+    match loosest(levels) {
+        Some((priority, tighter)) => chain(
             alloc,
             lexemes,
-            Joint::Priority(*priority),
+            Joint::Priority(priority),
             tighter,
             depth,
         ),
-        [] => operand(alloc, lexemes, depth),
+        None => operand(alloc, lexemes, depth),
     }
 }
 

@@ -2,7 +2,7 @@
 ghost use Rattle.std.specs.Prelude.{◌≡◌, ◌≤◌, length};
 ghost use Rattle.b_grammar.specs.Grammar as grammar;
 ghost use Rattle.b_grammar.specs.Descent as descent;
-ghost use Rattle.b_parse_expr.specs.Reading as spec;
+ghost use Rattle.b_read_expr.specs.Reading as spec;
 
 use crate::Unread;
 use crate::reading::{Bracket, Joint, Opener};
@@ -25,16 +25,6 @@ pub fn next(lexemes: &[Lexeme]) -> Result<(&Lexeme, &[Lexeme]), Unread>
     match lexemes {
         [first, rest @ ..] => Ok((first, rest)),
         [] => Err(Unread::NoTree(0)),
-    }
-}
-
-/// The first lexeme and the others, if there are some.
-pub fn split(lexemes: &[Lexeme]) -> Option<(&Lexeme, &[Lexeme])>
-    ensures { spec.IsSplit lexemes.now result }
-{
-    match lexemes {
-        [first, rest @ ..] => Some((first, rest)),
-        [] => None,
     }
 }
 

@@ -1,13 +1,13 @@
-use Rattle.b_grammar.specs.Grammar.{names_to_dot}
-use Rattle.b_parse_expr.proofs.Naming.{dot_goes}
-use Rattle.b_parse_expr.proofs.names.names_to_dot.Goals as goal
+use Rattle.b_grammar.specs.Grammar.{names_to_bar}
+use Rattle.b_read_expr.proofs.Naming.{bar_goes}
+use Rattle.b_read_expr.proofs.names.names_to_bar.Goals as goal
 
 pub loop-names-preserved : goal.loop-names-preserved
 loop-names-preserved c =
     rw
     c.in_ok-push.ensures.ok
-    (dot_goes
-    (names_to_dot c.args.lexemes.now)
+    (bar_goes
+    (names_to_bar c.args.lexemes.now)
     c.args.lexemes.now
     c.loop-names.names
     c.loop-names.rest.now

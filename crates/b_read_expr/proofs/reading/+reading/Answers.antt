@@ -6,13 +6,13 @@ use Rattle.b_ast.specs.declared.After.TheVariants as after
 use Rattle.b_grammar.specs.declared.Mark.TheVariants as sign
 use Rattle.b_grammar.specs.declared.Symbol.TheVariants as symbol
 use Rattle.b_grammar.specs.Grammar as grammar
-use Rattle.b_parse_expr.specs.declared.reading.Joint.TheVariants as joint
-use Rattle.b_parse_expr.specs.declared.reading.Content.TheVariants as content
-use Rattle.b_parse_expr.specs.declared.reading.Bracket.TheVariants as bracket
-use Rattle.b_parse_expr.specs.Reading as spec
-use Rattle.b_parse_expr.proofs.Laws as laws
-use Rattle.b_parse_expr.proofs.Exits as exits
-use Rattle.b_parse_expr.proofs.reading.+reading.Goals as goal
+use Rattle.b_read_expr.specs.declared.reading.Joint.TheVariants as joint
+use Rattle.b_read_expr.specs.declared.reading.Content.TheVariants as content
+use Rattle.b_read_expr.specs.declared.reading.Bracket.TheVariants as bracket
+use Rattle.b_read_expr.specs.Reading as spec
+use Rattle.b_read_expr.proofs.Laws as laws
+use Rattle.b_read_expr.proofs.Exits as exits
+use Rattle.b_read_expr.proofs.reading.+reading.Goals as goal
 
 pub formula-returns-in-None : goal.formula-returns-in-None
 formula-returns-in-None t c =
