@@ -1,9 +1,11 @@
 // The nodes at the top of the trees of texts.
-use b_ast::Formula;
+use b_ast::machine::DefTable;
+use b_ast::{Formula, FormulaText};
 use b_expand::{ParseFault, ParseKind};
 use b_grammar::symbols::lexemes;
 use b_lex::lex;
-use b_parse_expr::{Unread, tree_of, tree_of_text};
+use b_parse_expr::{Unread, parse_formula, tree_of, tree_of_text};
+use sqlite_items::Items;
 use std::alloc::{AllocError, Global};
 use std::test::Fail;
 
@@ -187,6 +189,50 @@ fn places(rt: HostRuntime) -> Result<(), Fail> {
             }
             _ => return Err(Fail::from("it is read")),
         }
+    }
+    Ok(())
+}
+
+fn sort_of_text(alloc: Global, text: &[u8]) -> Result<&'static str, Fail> {
+    let tokens = lex(alloc, text)?;
+    let defs = DefTable {
+        defs: Items::new(alloc),
+    };
+    match parse_formula(alloc, text, &tokens, &defs) {
+        Ok(FormulaText::Expr(_)) => Ok("expression"),
+        Ok(FormulaText::Pred(_)) => Ok("predicate"),
+        Err(ParseFault::Refused { kind, at: _ }) => match kind {
+            ParseKind::NotASentence => Ok("none"),
+            ParseKind::TooDeep => Ok("deep"),
+            ParseKind::TooWide => Ok("wide"),
+            _ => Err(Fail::from("another kind")),
+        },
+        Err(ParseFault::Memory) => Err(Fail::from("no memory")),
+    }
+}
+
+// Each line has what a text is without definitions, and the text.
+const SORTS: &str = "expression@1 - 2 - 3
+expression@f(1,2)
+expression@bool(1 = 2)
+predicate@1 = 1
+predicate@1 = 1 => 2 = 2
+predicate@!x.(x = 1 => x = 2)
+none@bool(1)
+none@1 + (1 = 2)
+none@!x.(x = 1)
+none@1 & 2
+none@1 = 2 = 3
+none@r ; s
+none@x y";
+
+#[test]
+fn sorts(rt: HostRuntime) -> Result<(), Fail> {
+    for line in SORTS.lines() {
+        let Some((want, text)) = line.split_once('@') else {
+            return Err(Fail::from("a line without a text"));
+        };
+        assert_eq!(rt; sort_of_text(rt.alloc(), text.as_bytes())?, want, "{text}");
     }
     Ok(())
 }
