@@ -718,7 +718,7 @@ operand_none p sign.CurlyClose at rest e = refl
 operand_none p sign.SquareClose at rest e = refl
 operand_none p m at rest e = absurd (cc)
 
-pub formula_none : (depth : ℕ) (levels : List ℕ) (m : Mark) (at : Place) (rest : List Lexeme) → is_closing m ≡ true → reads_formula depth levels (mark m at ∷ rest) ≡ None
+formula_none : (depth : ℕ) (levels : List ℕ) (m : Mark) (at : Place) (rest : List Lexeme) → is_closing m ≡ true → reads_formula depth levels (mark m at ∷ rest) ≡ None
 unfolding reads_formula
 formula_none zero levels m at rest e = cut_none levels (spec.operand (λ ps. never)) (mark m at ∷ rest) (operand_none (λ ps. never) m at rest e)
 formula_none (suc depth) levels m at rest e = cut_none levels (spec.operand (reads_formula depth)) (mark m at ∷ rest) (operand_none (reads_formula depth) m at rest e)

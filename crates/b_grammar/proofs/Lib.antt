@@ -4,4 +4,3 @@ pub mod Descent
 pub mod Deeper
 pub mod Endings
 pub mod Readings
-pub mod Enough

@@ -25,7 +25,7 @@ use Rattle.b_grammar.specs.Grammar.{priority, plain, bracketed, may_chain, arity
 use Rattle.b_grammar.specs.Descent as descent
 use Rattle.b_grammar.specs.Descent.{Found, Read, with_found, never, done, headed, is_mark, closed, shut, ended, pair, starts, each, made, or_else, has_priority, listed, is_comma, begins_after, after_names, reads_formula}
 use Rattle.b_grammar.proofs.Ways.{mark_named}
-use Rattle.b_grammar.proofs.Descent.{formula_none}
+use Rattle.b_read_expr.proofs.Closing.{formula_none}
 use Rattle.b_read_expr.specs.declared.Unread.{Unread}
 use Rattle.b_read_expr.specs.declared.Unread.TheVariants as unread
 use Rattle.b_read_expr.specs.declared.reading.Joint.{Joint}

@@ -1,4 +1,6 @@
 pub mod Loops
+pub mod Closing
+pub mod Enough
 pub mod Laws
 pub mod Naming
 pub mod Exits

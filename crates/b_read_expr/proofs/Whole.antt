@@ -7,7 +7,7 @@ use Rattle.b_grammar.specs.Grammar.{plain, IsFormulaText}
 use Rattle.b_grammar.specs.Descent.{Read, reads_formula}
 use Rattle.b_grammar.proofs.Ways.{same_found}
 use Rattle.b_grammar.proofs.Descent.{all_read, is_read}
-use Rattle.b_grammar.proofs.Enough.{few_open}
+use Rattle.b_read_expr.proofs.Enough.{few_open}
 use Rattle.b_read_expr.specs.declared.Unread.{Unread}
 use Rattle.b_read_expr.specs.declared.Unread.TheVariants as unread
 use Rattle.b_read_expr.specs.Reading.{Stops, inside, piece}
