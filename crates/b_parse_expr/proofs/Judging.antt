@@ -6,14 +6,19 @@ use Rattle.b_ast.specs.declared.machine.Def.{Def}
 use Rattle.b_grammar.specs.declared.Lexeme.{Lexeme}
 use Rattle.b_expand.specs.declared.faults.Unfit.{Unfit}
 use Rattle.b_expand.specs.declared.faults.Unfit.TheVariants as unfit
+use Rattle.b_expand.specs.declared.faults.Unexpanded.{Unexpanded}
+use Rattle.b_expand.specs.declared.faults.Unexpanded.TheVariants as unexpanded
 use Rattle.b_expand.specs.declared.faults.ParseKind.{ParseKind}
 use Rattle.b_expand.specs.declared.faults.ParseKind.TheVariants as kind
 use Rattle.b_expand.specs.declared.faults.ParseFault.{ParseFault}
 use Rattle.b_expand.specs.declared.faults.ParseFault.TheVariants as fault
 use Rattle.b_expand.specs.Expansion.{expansion}
-use Rattle.b_expand.specs.Answers.{judged}
-use Rattle.b_parse_expr.specs.Parsing.{is_deep, IsCheckedTree}
-use Rattle.b_parse_expr.specs.Verdicts.{IsJudged, IsNoSentence, IsVerdict, kind_of, IsAnswer, Gives}
+use Rattle.b_expand.specs.Answers.{judged, Answers}
+use Rattle.b_read_expr.specs.declared.Unread.{Unread}
+use Rattle.b_read_expr.specs.declared.Unread.TheVariants as unread
+use Rattle.b_read_expr.specs.Answers.{IsTreeOf}
+use Rattle.b_parse_expr.specs.Parsing.{is_deep, IsCheckedTree, FaultFits}
+use Rattle.b_parse_expr.specs.Verdicts.{IsJudged, IsNoSentence, IsVerdict, kind_of, passed_on, Gives}
 
 at_true : (b : Bool) (P Q : Type 0) → b ≡ true → P → MatchBool b P Q
 at_true true P Q e p = p
@@ -41,7 +46,18 @@ module _ (ls : List Lexeme) (ds : List Def) (end : ℕ) where
   gives_fault fault.Memory c = tt
 
   -- with a tree
-  pub gives_answer : (t : Formula) → IsCheckedTree ls end (Ok t) → (r : Result FormulaText ParseFault) → IsAnswer (judged (expansion ds t)) end r → Gives ls ds end r
-  gives_answer t c (Ok f) a = verdict_judged (Ok f) c.0 (t, c.1, a)
-  gives_answer t c (Err (fault.Refused k at)) a = (a.0, a.2, verdict_judged (Err a.0) c.0 (t, c.1, a.1), a.3)
-  gives_answer t c (Err fault.Memory) a = tt
+  given : (t : Formula) → IsCheckedTree ls end (Ok t) → (a : Result FormulaText Unexpanded) → Answers (judged (expansion ds t)) a → Gives ls ds end (passed_on a end)
+  given t c (Ok f) a = verdict_judged (Ok f) c.0 (t, c.1, a)
+  given t c (Err (unexpanded.Refused why at)) a = (why, refl, verdict_judged (Err why) c.0 (t, c.1, a), omega arith)
+  given t c (Err unexpanded.Memory) a = tt
+
+  pub gives_answer : (t : Formula) → IsCheckedTree ls end (Ok t) → (a : Result FormulaText Unexpanded) → Answers (judged (expansion ds t)) a → (r : Result FormulaText ParseFault) → r ≡ passed_on a end → Gives ls ds end r
+  gives_answer t c a h r e = subst (Gives ls ds end) (sym e) (given t c a h)
+
+-- without a tree, of lexemes with few open brackets
+pub checked_fault : (ls : List Lexeme) (end : ℕ) (u : Unread) (f : ParseFault) → is_deep ls ≡ false → IsTreeOf ls (Err u) → FaultFits u end f → IsCheckedTree ls end (Err f)
+checked_fault ls end (unread.NoTree left) (fault.Refused kind.NotASentence at) e n h = (e, n, h)
+checked_fault ls end (unread.NoTree left) (fault.Refused k at) e n h = absurd h
+checked_fault ls end (unread.NoTree left) fault.Memory e n h = absurd h
+checked_fault ls end unread.Memory (fault.Refused k at) e n h = absurd h
+checked_fault ls end unread.Memory fault.Memory e n h = tt

@@ -7,6 +7,8 @@ use Rattle.b_grammar.specs.Grammar.{IsFormulaText}
 use Rattle.b_expand.specs.declared.faults.ParseKind.TheVariants as kind
 use Rattle.b_expand.specs.declared.faults.ParseFault.{ParseFault}
 use Rattle.b_expand.specs.declared.faults.ParseFault.TheVariants as fault
+use Rattle.b_read_expr.specs.declared.Unread.{Unread}
+use Rattle.b_read_expr.specs.declared.Unread.TheVariants as unread
 
 -- more than 100 brackets are open behind some lexeme
 abbrev pub is_deep : List Lexeme → Bool
@@ -21,6 +23,12 @@ IsCheckedTree ls end (Err (fault.Refused kind.TooDeep at)) = (is_deep ls ≡ tru
 IsCheckedTree ls end (Err (fault.Refused kind.NotASentence at)) = (is_deep ls ≡ false) × ((t : Formula) → IsFormulaText ls t → ⊥) × (at ≤ end)
 IsCheckedTree ls end (Err (fault.Refused k at)) = ⊥
 IsCheckedTree ls end (Err fault.Memory) = Unit {0}
+
+-- the fault for lexemes that have no tree, or for want of memory
+abbrev pub FaultFits : Unread → ℕ → ParseFault → Type 0
+FaultFits (unread.NoTree left) end (fault.Refused kind.NotASentence at) = at ≤ end
+FaultFits unread.Memory end fault.Memory = Unit {0}
+FaultFits u end f = ⊥
 
 -- the first lexeme and the others
 abbrev pub IsSplit : List Lexeme → Option (Bor Lexeme × Bor (List Lexeme)) → Type 0

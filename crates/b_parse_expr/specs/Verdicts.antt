@@ -1,5 +1,5 @@
 -- What becomes of a formula's text.
-use Rattle.std.specs.Prelude.{◌≡◌, ◌≤◌, ◌⊎◌, ℕ, List, Result, Ok, Err, length, MatchBool}
+use Rattle.std.specs.Prelude.{◌≡◌, ◌≤◌, ◌⊎◌, ℕ, List, Result, Ok, Err, false, length, min, MatchBool}
 use Rattle.b_ast.specs.declared.Formula.{Formula}
 use Rattle.b_ast.specs.declared.FormulaText.{FormulaText}
 use Rattle.b_ast.specs.declared.machine.Def.{Def}
@@ -9,6 +9,8 @@ use Rattle.b_grammar.specs.Grammar.{IsFormulaText}
 use Rattle.b_grammar.specs.Symbols.{lexemes}
 use Rattle.b_expand.specs.declared.faults.Unfit.{Unfit}
 use Rattle.b_expand.specs.declared.faults.Unfit.TheVariants as unfit
+use Rattle.b_expand.specs.declared.faults.Unexpanded.{Unexpanded}
+use Rattle.b_expand.specs.declared.faults.Unexpanded.TheVariants as unexpanded
 use Rattle.b_expand.specs.declared.faults.ParseKind.{ParseKind}
 use Rattle.b_expand.specs.declared.faults.ParseKind.TheVariants as kind
 use Rattle.b_expand.specs.declared.faults.ParseFault.{ParseFault}
@@ -34,11 +36,14 @@ kind_of unfit.NotASentence = kind.NotASentence
 kind_of unfit.TooDeep = kind.TooDeep
 kind_of unfit.TooWide = kind.TooWide
 
--- the answer for what is wanted; a refusal stands before the end of the text, and want of memory is free
-abbrev pub IsAnswer : Result FormulaText Unfit → ℕ → Result FormulaText ParseFault → Type 0
-IsAnswer wanted end (Ok f) = wanted ≡ Ok f
-IsAnswer wanted end (Err (fault.Refused k at)) = (why : Unfit) × (wanted ≡ Err why) × (kind_of why ≡ k) × (at ≤ end)
-IsAnswer wanted end (Err fault.Memory) = Unit {0}
+-- a refusal of an expansion, at its place or at the end of the text
+abbrev pub fault_of : Unexpanded → ℕ → ParseFault
+fault_of (unexpanded.Refused why at) end = fault.Refused (kind_of why) (min at end)
+fault_of unexpanded.Memory end = fault.Memory
+
+abbrev pub passed_on : Result FormulaText Unexpanded → ℕ → Result FormulaText ParseFault
+passed_on (Ok f) end = Ok f
+passed_on (Err e) end = Err (fault_of e end)
 
 -- the verdict; a refusal stands before the end of the text, and want of memory is free
 abbrev pub Gives : List Lexeme → List Def → ℕ → Result FormulaText ParseFault → Type 0

@@ -1,12 +1,9 @@
 //! Formulas with their definitions expanded.
-ghost use Rattle.std.specs.Prelude.{◌≡◌, ◌≤◌, Result, length};
+ghost use Rattle.std.specs.Prelude.{◌≡◌, ◌≤◌, length};
 ghost use Rattle.b_lex.specs.Reading.{AreSpans};
-ghost use Rattle.b_ast.specs.declared.FormulaText.{FormulaText};
-ghost use Rattle.b_expand.specs.declared.faults.Unfit.{Unfit};
-ghost use Rattle.b_expand.specs.Answers.{Answers};
 ghost use Rattle.b_parse_expr.specs.Verdicts as spec;
 
-use crate::texts::{refused, tree_of_text};
+use crate::texts::tree_of_text;
 use b_ast::FormulaText;
 use b_ast::machine::DefTable;
 use b_expand::{ParseFault, ParseKind, Unexpanded, Unfit, expand};
@@ -23,14 +20,25 @@ fn kind_of(why: Unfit) -> ParseKind
     }
 }
 
+fn fault_of(unexpanded: Unexpanded, end: u64) -> ParseFault
+    ensures { result ≡ spec.fault_of unexpanded end }
+{
+    match unexpanded {
+        Unexpanded::Refused(why, at) => ParseFault::Refused {
+            kind: kind_of(why),
+            at: at.min(end),
+        },
+        Unexpanded::Memory => ParseFault::Memory,
+    }
+}
+
 // The answer of an expansion for a text that ends there.
 fn answer_of(answer: Result<FormulaText, Unexpanded>, end: u64) -> Result<FormulaText, ParseFault>
-    ensures { (wanted : Result FormulaText Unfit) → Answers wanted answer → spec.IsAnswer wanted end result }
+    ensures { result ≡ spec.passed_on answer end }
 {
     match answer {
         Ok(formula) => Ok(formula),
-        Err(Unexpanded::Refused(why, at)) => Err(refused(kind_of(why), at, end)),
-        Err(Unexpanded::Memory) => Err(ParseFault::Memory),
+        Err(unexpanded) => Err(fault_of(unexpanded, end)),
     }
 }
 

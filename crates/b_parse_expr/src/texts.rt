@@ -1,8 +1,7 @@
 //! The tree of a text, before its definitions are expanded.
-ghost use Rattle.std.specs.Prelude.{false, ◌≡◌, ◌≤◌, length, min, is_some};
+ghost use Rattle.std.specs.Prelude.{false, ◌≡◌, ◌≤◌, length, is_some};
 ghost use Rattle.b_lex.specs.Reading.{AreSpans};
 ghost use Rattle.b_grammar.specs.Symbols as symbols;
-ghost use Rattle.b_expand.specs.declared.faults.ParseFault.TheVariants as fault;
 ghost use Rattle.b_parse_expr.specs.Parsing as spec;
 
 use b_ast::Formula;
@@ -27,6 +26,7 @@ fn split(lexemes: &[Lexeme]) -> Option<(&Lexeme, &[Lexeme])>
 }
 
 // The place of the first lexeme behind which more brackets are open.
+#[tactic(auto, using(crate::proofs::Deep::deep_first, crate::proofs::Deep::shallow_first))]
 fn first_deep(lexemes: &[Lexeme]) -> Option<u64>
     ensures { is_some result ≡ spec.is_deep lexemes.now }
 {
@@ -40,16 +40,6 @@ fn first_deep(lexemes: &[Lexeme]) -> Option<u64>
     None
 }
 
-/// A refusal at this place, or at the end of the text.
-pub fn refused(kind: ParseKind, at: u64, end: u64) -> ParseFault
-    ensures { result ≡ fault.Refused kind (min at end) }
-{
-    ParseFault::Refused {
-        kind,
-        at: at.min(end),
-    }
-}
-
 // The place of the lexeme behind which so many are left, or the end of the text.
 fn place_before(lexemes: &[Lexeme], left: usize, end: u64) -> u64 {
     match lexemes.get(lexemes.len().saturating_sub(left)) {
@@ -58,20 +48,44 @@ fn place_before(lexemes: &[Lexeme], left: usize, end: u64) -> u64 {
     }
 }
 
+// Why the lexemes of a text that ends there have no tree.
+fn fault_of(unread: Unread, lexemes: &[Lexeme], end: u64) -> ParseFault
+    ensures { spec.FaultFits unread end result }
+{
+    match unread {
+        Unread::NoTree(left) => {
+            let at = place_before(lexemes, left, end).min(end);
+            ParseFault::Refused {
+                kind: ParseKind::NotASentence,
+                at,
+            }
+        }
+        Unread::Memory => ParseFault::Memory,
+    }
+}
+
+fn shallow_tree(alloc: Global, lexemes: &[Lexeme], end: u64) -> Result<Formula, ParseFault>
+    requires { spec.is_deep lexemes.now ≡ false }
+    ensures { spec.IsCheckedTree lexemes.now end result }
+{
+    match tree_of(alloc, lexemes) {
+        Ok(tree) => Ok(tree),
+        Err(unread) => Err(fault_of(unread, lexemes, end)),
+    }
+}
+
 fn checked_tree(alloc: Global, lexemes: &[Lexeme], end: u64) -> Result<Formula, ParseFault>
     ensures { spec.IsCheckedTree lexemes.now end result }
 {
-    if let Some(at) = first_deep(lexemes) {
-        return Err(refused(ParseKind::TooDeep, at, end));
-    }
-    match tree_of(alloc, lexemes) {
-        Ok(tree) => Ok(tree),
-        Err(Unread::Memory) => Err(ParseFault::Memory),
-        Err(Unread::NoTree(left)) => Err(refused(
-            ParseKind::NotASentence,
-            place_before(lexemes, left, end),
-            end,
-        )),
+    match first_deep(lexemes) {
+        Some(place) => {
+            let at = place.min(end);
+            Err(ParseFault::Refused {
+                kind: ParseKind::TooDeep,
+                at,
+            })
+        }
+        None => shallow_tree(alloc, lexemes, end),
     }
 }
 
@@ -81,7 +95,7 @@ pub fn tree_of_text(alloc: Global, text: &[u8], tokens: &[Token]) -> Result<Form
     ensures { spec.IsCheckedTree (symbols.lexemes false text.now tokens.now) (length text.now) result }
 {
     match lexemes(alloc, false, text, tokens) {
-        Ok(all) => checked_tree(alloc, &all, text.len() as u64),
+        Ok(all) => checked_tree(alloc, all.as_slice(), text.len() as u64),
         Err(_) => Err(ParseFault::Memory),
     }
 }
