@@ -30,3 +30,24 @@ pub enum ParseFault {
     #[error("out of memory")]
     Memory,
 }
+
+/// Why an expanded formula is no text.
+#[derive(Clone, Copy, Debug, PartialEq, Eq)]
+pub enum Unfit {
+    /// A definition is used in a wrong way, or the tree has no sort.
+    NotASentence,
+    /// More than 100 brackets are open at one place.
+    TooDeep,
+    /// It has more than 1,000,000 nodes.
+    TooWide,
+}
+
+/// Why a formula can't be expanded.
+#[derive(Clone, Copy, Debug, PartialEq, Eq, Error)]
+pub enum Unexpanded {
+    /// The reason, and the place of the formula's first use of a definition.
+    #[error("{0:?} at byte {1}")]
+    Refused(Unfit, u64),
+    #[error("out of memory")]
+    Memory,
+}

@@ -1,0 +1,4 @@
+-- Lemmas of the expander.
+pub mod Naming
+pub mod Lists
+pub mod Work

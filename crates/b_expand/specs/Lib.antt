@@ -1,0 +1,5 @@
+-- The expansion of definitions.
+pub mod Places
+pub mod Expansion
+pub mod Answers
+pub mod Standing
