@@ -1,2 +1,5 @@
 //! Canonical texts of formulas.
 #![tactic(auto)]
+
+pub mod spellings;
+pub mod texts;
