@@ -2,4 +2,6 @@
 #![tactic(auto)]
 
 pub mod spellings;
+#[cfg(test)]
+mod tests;
 pub mod texts;

@@ -149,11 +149,8 @@ pub fn priority(operator: Operator) -> u64
 {
     match operator {
         Operator::Power => 200,
-        Operator::Times
-        | Operator::Divide
-        | Operator::Modulo => 190,
-        Operator::Plus
-        | Operator::Minus => 180,
+        Operator::Times | Operator::Divide | Operator::Modulo => 190,
+        Operator::Plus | Operator::Minus => 180,
         Operator::Interval => 170,
         Operator::Maplet
         | Operator::Union
@@ -190,11 +187,9 @@ pub fn priority(operator: Operator) -> u64
         | Operator::LessOrEqual
         | Operator::GreaterOrEqual => 60,
         Operator::Equivalence => 50,
-        Operator::And
-        | Operator::Or => 40,
+        Operator::And | Operator::Or => 40,
         Operator::Implication => 30,
-        Operator::Composition
-        | Operator::ParallelProduct => 20,
+        Operator::Composition | Operator::ParallelProduct => 20,
         Operator::Comma => 0,
     }
 }

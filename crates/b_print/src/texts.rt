@@ -14,8 +14,11 @@ pub use std::alloc::AllocError as NoMemory;
 
 // How tight neighbours bind.
 const INSIDE: u64 = 0;
+
 const ALONE: u64 = 20;
+
 const SIGN: u64 = 210;
+
 const FORMS: u64 = 250;
 
 /// The text of an expression.
