@@ -1,0 +1,5 @@
+pub mod Layers
+pub mod Ways
+pub mod Climbing
+pub mod Bare
+pub mod BinderNames

@@ -1,0 +1,2 @@
+//! Canonical texts are read back.
+#![tactic(auto)]
