@@ -3,6 +3,7 @@ use Rattle.std.proofs.Common.{◌≡◌, ◌≢◌, ℕ, Bool, true, false, ◌&
 use Rattle.std.specs.List.{AllByRecursion}
 use Rattle.b_ast.specs.declared.Place.{Place}
 use Rattle.b_ast.specs.declared.Bound.{Bound}
+use Rattle.b_ast.specs.declared.Operator.TheVariants.{Minus}
 use Rattle.b_ast.specs.declared.Collector.{Collector}
 use Rattle.b_ast.specs.declared.Collector.TheVariants as collector
 use Rattle.b_ast.specs.declared.Formula.{Formula, roll-Formula, map-Formula, fold-roll-Formula}
@@ -206,19 +207,19 @@ on_formula x h = subst NoBars (sym (formula_rolls x)) (go x h)
     go (Formula-F.Name at s) h = λ m rest k. named s rest k
     go (Formula-F.Old at s) h = λ m rest k. refl
     go (Formula-F.Constant at c) h = λ m rest k. front (symbol.Constant c) rest refl
-    go (Formula-F.Negative at e) h = guarded_bars _ _ (λ rest k. front _ _ refl)
+    go (Formula-F.Negative at e) h = guarded_bars 210 (symbol.Operator Minus ∷ symbols_at e 210) (λ rest k. front (symbol.Operator Minus) (symbols_at e 210 ++ rest) refl)
     go (Formula-F.Chain e ls) h =
         let q : ℕ = chain_binds (map link_symbols ls) in
         guarded_bars q (symbols_at e q ++ links (map link_symbols ls)) (λ rest k. followed (symbols_at e) q (links (map link_symbols ls)) rest h.0 (links_behind (map link_symbols ls) rest k))
     go (Formula-F.Row e fs) h =
         guarded_bars 250 (symbols_at e 250 ++ afters (map after_symbols fs)) (λ rest k. followed (symbols_at e) 250 (afters (map after_symbols fs)) rest h.0 (afters_behind fs rest h.1 k))
-    go (Formula-F.Call at f us) h = λ m rest k. front (symbol.Function f) _ refl
-    go (Formula-F.Set at us) h = λ m rest k. front (symbol.Mark sign.CurlyOpen) _ refl
-    go (Formula-F.Sequence at us) h = λ m rest k. front (symbol.Mark sign.SquareOpen) _ refl
-    go (Formula-F.Comprehension at ns p) h = λ m rest k. front (symbol.Mark sign.CurlyOpen) _ refl
-    go (Formula-F.Quantified at q ns p) h = λ m rest k. front (symbol.Quantifier q) _ refl
-    go (Formula-F.Collected at c ns p e) h = λ m rest k. front (symbol.Collector c) _ refl
-    go (Formula-F.If at p e f) h = λ m rest k. front (symbol.Mark sign.If) _ refl
+    go (Formula-F.Call at f us) h = λ m rest k. refl
+    go (Formula-F.Set at us) h = λ m rest k. front (symbol.Mark sign.CurlyOpen) (ended (commas (map symbols_at us)) sign.CurlyClose ++ rest) refl
+    go (Formula-F.Sequence at us) h = λ m rest k. front (symbol.Mark sign.SquareOpen) (ended (commas (map symbols_at us)) sign.SquareClose ++ rest) refl
+    go (Formula-F.Comprehension at ns p) h = λ m rest k. front (symbol.Mark sign.CurlyOpen) ((names_to sign.Bar ns ++ ended (symbols_at p 0) sign.CurlyClose) ++ rest) refl
+    go (Formula-F.Quantified at q ns p) h = λ m rest k. front (symbol.Quantifier q) ((binder_names ns ++ ended (symbols_at p 0) sign.RoundClose) ++ rest) refl
+    go (Formula-F.Collected at c ns p e) h = λ m rest k. front (symbol.Collector c) ((collector_names c ns ++ (ended (symbols_at p 0) sign.Bar ++ ended (symbols_at e 0) sign.RoundClose)) ++ rest) refl
+    go (Formula-F.If at p e f) h = λ m rest k. front (symbol.Mark sign.If) ((ended (symbols_at p 20) sign.Then ++ (ended (symbols_at e 20) sign.Else ++ ended (symbols_at f 20) sign.End)) ++ rest) refl
 
 pub no_bars : (t : Formula) → NoBars (symbols_at t)
 no_bars t = by_layers AfterBars Formed Linked on_after on_formula (λ x h. tt) t

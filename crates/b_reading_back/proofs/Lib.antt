@@ -3,3 +3,6 @@ pub mod Ways
 pub mod Climbing
 pub mod Bare
 pub mod BinderNames
+pub mod Pieces
+pub mod Chains
+pub mod Reading
