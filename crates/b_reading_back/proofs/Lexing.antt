@@ -7,8 +7,6 @@ use Rattle.std.proofs.lemmas.List.{map-append}
 use Rattle.b_lex.specs.declared.tokens.Token.{Token}
 use Rattle.b_lex.specs.declared.tokens.TokenKind.{TokenKind}
 use Rattle.b_lex.specs.declared.tokens.LexKind.{LexKind}
-use Rattle.b_lex.specs.declared.fronts.Front.TheVariants.{Skip, Take}
-use Rattle.b_lex.specs.Fronts.{Begins}
 use Rattle.b_lex.specs.Bytes.{is_name_byte}
 use Rattle.b_lex.specs.Reading.{Reads, spelling}
 use Rattle.b_grammar.specs.declared.Symbol.{Symbol}
@@ -22,11 +20,16 @@ Spelled = TokenKind × List ℕ
 abbrev pub meaning : Spelled → Symbol
 meaning w = symbol_of w.0 w.1
 
--- a text has these tokens
+-- in front of what follows, a token of this kind with this spelling is taken
+abbrev pub IsTaken : TokenKind → List ℕ → List ℕ → Type 0
+IsTaken kind word rest =
+    (at : ℕ) (tokens : List Token) → Reads (at + length word) (drop (length word) (word ++ rest)) tokens None → Reads at (word ++ rest) (record { kind = kind; from = at; to = at + length word } ∷ tokens) None
+
+-- a text has these tokens; a space separates
 pub data Spells : List ℕ → List Spelled → Type 0 where
   ended : Spells [] []
-  skips : (gap rest : List ℕ) (ws : List Spelled) → Begins (gap ++ rest) (Skip (length gap)) → Spells rest ws → Spells (gap ++ rest) ws
-  takes : (kind : TokenKind) (word rest : List ℕ) (ws : List Spelled) → Begins (word ++ rest) (Take kind (length word)) → Spells rest ws → Spells (word ++ rest) ((kind, word) ∷ ws)
+  skips : (rest : List ℕ) (ws : List Spelled) → Spells rest ws → Spells (32 ∷ rest) ws
+  takes : (kind : TokenKind) (word rest : List ℕ) (ws : List Spelled) → IsTaken kind word rest → Spells rest ws → Spells (word ++ rest) ((kind, word) ∷ ws)
 
 -- the tokens of a text behind another text
 pub record ReadBehind (before text : List ℕ) (ws : List Spelled) : Type 0 where
@@ -43,20 +46,20 @@ between_is before word rest =
 
 pub read_behind : (before text : List ℕ) (ws : List Spelled) → Spells text ws → ReadBehind before text ws
 read_behind before text ws Spells.ended = record { tokens = []; reads = Reads.ended (length before); means = λ machine depth. refl }
-read_behind before text ws (Spells.skips gap rest more begins s) =
-    let r = read_behind (before ++ gap) rest ws s in
+read_behind before text ws (Spells.skips rest more s) =
+    let r = read_behind (before ++ 32 ∷ []) rest ws s in
+    let here : Reads (length before + 1) rest r.tokens None = subst (λ (n : ℕ). Reads n rest r.tokens None) (length-append before (32 ∷ [])) r.reads in
     record {
       tokens = r.tokens;
-      reads = Reads.skips (length before) (length gap) (gap ++ rest) r.tokens None begins
-          (subst (λ (l : List ℕ). Reads (length before + length gap) l r.tokens None) (sym (drop-append_seam gap rest)) (subst (λ (n : ℕ). Reads n rest r.tokens None) (length-append before gap) r.reads));
-      means = λ machine depth. ap (λ (l : List ℕ). symbols (lexemes_from machine l depth r.tokens)) (sym (append_assoc before gap rest)) ∙ r.means machine depth;
+      reads = Reads.skips (length before) 1 (32 ∷ rest) r.tokens None refl here;
+      means = λ machine depth. ap (λ (l : List ℕ). symbols (lexemes_from machine l depth r.tokens)) (sym (append_assoc before (32 ∷ []) rest)) ∙ r.means machine depth;
     }
 read_behind before text ws (Spells.takes kind word rest more begins s) =
     let r = read_behind (before ++ word) rest more s in
     let token : Token = record { kind = kind; from = length before; to = length before + length word } in
     record {
       tokens = token ∷ r.tokens;
-      reads = Reads.takes (length before) (length word) kind (word ++ rest) r.tokens None begins
+      reads = begins (length before) r.tokens
           (subst (λ (l : List ℕ). Reads (length before + length word) l r.tokens None) (sym (drop-append_seam word rest)) (subst (λ (n : ℕ). Reads n rest r.tokens None) (length-append before word) r.reads));
       means = λ machine depth.
           ap (λ (w : List ℕ). symbol_of kind w ∷ symbols (lexemes_from machine (before ++ (word ++ rest)) (depth_after (spelling (before ++ (word ++ rest)) token) depth) r.tokens)) (between_is before word rest)
@@ -99,8 +102,8 @@ joined F G a b ss rs p q h = record { lex = go }
 pub freely : (F : List ℕ → Type 0) (a : List ℕ) (ss : List Symbol) → Lexes Any a ss → Lexes F a ss
 freely F a ss p = record { lex = λ rest ws f s. p.lex rest ws tt s }
 
-pub token : (F : List ℕ → Type 0) (kind : TokenKind) (word : List ℕ) (z : Symbol) → symbol_of kind word ≡ z → ((rest : List ℕ) → F rest → Begins (word ++ rest) (Take kind (length word))) → Lexes F word (z ∷ [])
+pub token : (F : List ℕ → Type 0) (kind : TokenKind) (word : List ℕ) (z : Symbol) → symbol_of kind word ≡ z → ((rest : List ℕ) → F rest → IsTaken kind word rest) → Lexes F word (z ∷ [])
 token F kind word z means begins = record { lex = λ rest ws f s. ((kind, word) ∷ [], Spells.takes kind word rest ws (begins rest f) s, ap (λ (y : Symbol). y ∷ []) means) }
 
 pub gap : Lexes Any (32 ∷ []) []
-gap = record { lex = λ rest ws f s. ([], Spells.skips (32 ∷ []) rest ws refl s, refl) }
+gap = record { lex = λ rest ws f s. ([], Spells.skips rest ws s, refl) }

@@ -6,3 +6,9 @@ pub mod BinderNames
 pub mod Pieces
 pub mod Chains
 pub mod Reading
+pub mod Lexing
+pub mod Tokens
+pub mod Minus
+pub mod Quotes
+pub mod Spelling
+pub mod Back
