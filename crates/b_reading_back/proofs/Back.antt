@@ -1,20 +1,16 @@
 -- What is printed is read back.
-use Rattle.std.proofs.Common.{◌≡◌, ◌+◌, ℕ, Bool, List, [], ◌∷◌, ◌++◌, map, None, refl, sym, ap, ◌∙◌, subst, append-nil}
+use Rattle.std.proofs.Common.{◌≡◌, ℕ, List, [], ◌++◌, refl, ◌∙◌, subst, append-nil}
 use Rattle.b_ast.specs.declared.Formula.{Formula}
 use Rattle.b_lex.specs.declared.tokens.Token.{Token}
-use Rattle.b_lex.specs.Reading.{Reads, AreTokens}
 use Rattle.b_lex.proofs.OneReading.{one_row}
-use Rattle.b_grammar.specs.declared.Lexeme.{Lexeme}
-use Rattle.b_grammar.specs.Symbols.{lexemes, lexemes_from}
-use Rattle.b_grammar.specs.Grammar.{IsFormulaText}
+use Rattle.b_grammar.specs.Symbols.{lexemes}
 use Rattle.b_grammar.proofs.Deeper.{one_text}
-use Rattle.b_print.specs.Texts.{text_at, text_of}
-use Rattle.b_reading_back.specs.Symbols.{symbols_at, symbols_of}
-use Rattle.b_reading_back.specs.Places.{bare, IsSameApartFromPlaces}
-use Rattle.b_reading_back.specs.Printable.{IsPrintable}
+use Rattle.b_print.specs.Texts.{text_of}
+use Rattle.b_reading_back.specs.Symbols.{symbols_of}
+use Rattle.b_reading_back.specs.Places.{bare}
 use Rattle.b_reading_back.specs.Laws.{symbols, HasItsSymbols, IsReadBack, IsReadAsNothingElse}
 use Rattle.b_reading_back.proofs.Reading.{itself}
-use Rattle.b_reading_back.proofs.Lexing.{Spells, Spelled, meaning, read_behind}
+use Rattle.b_reading_back.proofs.Lexing.{Spells, Spelled, read_behind}
 use Rattle.b_reading_back.proofs.Spelling.{text_good}
 
 pub has_symbols : HasItsSymbols

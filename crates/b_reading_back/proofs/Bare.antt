@@ -1,5 +1,5 @@
 -- What a tree is apart from places.
-use Rattle.std.proofs.Common.{◌≡◌, ℕ, List, [], ◌∷◌, map, refl, sym, ap, ◌∙◌}
+use Rattle.std.proofs.Common.{◌≡◌, ℕ, List, map, sym, ap, ◌∙◌}
 use Rattle.b_ast.specs.declared.Place.{Place}
 use Rattle.b_ast.specs.declared.Bound.{Bound}
 use Rattle.b_ast.specs.declared.Constant.{Constant}
@@ -7,12 +7,12 @@ use Rattle.b_ast.specs.declared.Function.{Function}
 use Rattle.b_ast.specs.declared.Quantifier.{Quantifier}
 use Rattle.b_ast.specs.declared.Collector.{Collector}
 use Rattle.b_ast.specs.declared.Operator.{Operator}
-use Rattle.b_ast.specs.declared.Formula.{Formula, roll-Formula, fold-roll-Formula}
+use Rattle.b_ast.specs.declared.Formula.{Formula, fold-roll-Formula}
 use Rattle.b_ast.specs.declared.Formula.TheVariants as formula
 use Rattle.b_ast.specs.declared.Link.{Link, roll-Link, fold-roll-Link}
-use Rattle.b_ast.specs.declared.After.{After, roll-After, fold-roll-After}
+use Rattle.b_ast.specs.declared.After.{After, fold-roll-After}
 use Rattle.b_ast.specs.declared.After.TheVariants as after
-use Rattle.b_ast.specs.declared.After.TheOpen.{Formula-F, Link-F, After-F}
+use Rattle.b_ast.specs.declared.After.TheOpen.{Formula-F, After-F}
 use Rattle.b_grammar.specs.Grammar.{Part, link}
 use Rattle.b_reading_back.specs.Places.{nowhere, bare, bare_link, bare_after, bare_bounds, after_step, link_step, formula_step}
 

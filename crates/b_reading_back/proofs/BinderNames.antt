@@ -7,14 +7,13 @@ use Rattle.b_ast.specs.declared.Operator.TheVariants.{Minus}
 use Rattle.b_ast.specs.declared.Collector.{Collector}
 use Rattle.b_ast.specs.declared.Collector.TheVariants as collector
 use Rattle.b_ast.specs.declared.Formula.{Formula, roll-Formula, map-Formula, fold-roll-Formula}
-use Rattle.b_ast.specs.declared.Link.{Link, fold-roll-Link}
+use Rattle.b_ast.specs.declared.Link.{Link}
 use Rattle.b_ast.specs.declared.After.{After, roll-After, map-After, fold-roll-After}
-use Rattle.b_ast.specs.declared.After.TheOpen.{Formula-F, Link-F, After-F}
+use Rattle.b_ast.specs.declared.After.TheOpen.{Formula-F, After-F}
 use Rattle.b_grammar.specs.declared.Mark.TheVariants as sign
 use Rattle.b_grammar.specs.declared.Symbol.{Symbol}
 use Rattle.b_grammar.specs.declared.Symbol.TheVariants as symbol
 use Rattle.b_grammar.specs.declared.Lexeme.{Lexeme}
-use Rattle.b_grammar.specs.Cuts.{mark}
 use Rattle.b_grammar.specs.Grammar.{Names, names_to_bar, names_to_dot, bound_names, and_name}
 use Rattle.b_reading_back.specs.Laws.{symbols}
 use Rattle.b_reading_back.specs.Places.{nowhere, bare_bounds}

@@ -1,7 +1,6 @@
 -- A piece that reads at tighter priorities reads at looser ones.
 use borrow.Author.Tests.{ltb-true}
 use Rattle.std.proofs.Common.{◌≡◌, ◌<◌, ◌≤◌, ◌==◌, ℕ, Bool, true, false, ◌||◌, ◌&&◌, cond, List, [], ◌∷◌, ◌++◌, refl, sym, ap, ◌∙◌, subst, append-nil, arith, nat_lt}
-use Rattle.std.proofs.lemmas.Grind.{common_steps}
 use Rattle.std.proofs.lemmas.Bool.Decides.{nat_tests}
 use Rattle.b_ast.specs.declared.Place.{Place}
 use Rattle.b_ast.specs.declared.Formula.{Formula}
@@ -9,7 +8,7 @@ use Rattle.b_grammar.specs.declared.Symbol.{Symbol}
 use Rattle.b_grammar.specs.declared.Symbol.TheVariants as symbol
 use Rattle.b_grammar.specs.declared.Lexeme.{Lexeme}
 use Rattle.b_grammar.specs.Cuts.{Stands, IsHeaded}
-use Rattle.b_grammar.specs.Grammar.{IsChain, IsCutAt, IsForm, IsRow, IsOperand, bracketed}
+use Rattle.b_grammar.specs.Grammar.{IsChain, IsCutAt, IsForm, IsRow, IsOperand}
 use Rattle.b_reading_back.proofs.Ways.{lexeme}
 
 abbrev pub IsWithin : {A : Type 0} → Stands A → Stands A → Type 0

@@ -1,9 +1,9 @@
 -- Induction over formulas, layer by layer.
-use Rattle.std.proofs.Common.{◌≡◌, List, [], ◌∷◌, map, refl, ap, subst}
+use Rattle.std.proofs.Common.{◌≡◌, List, [], ◌∷◌, map, subst}
 use Rattle.std.specs.List.{AllByRecursion}
-use Rattle.b_ast.specs.declared.Formula.{Formula, roll-Formula, out-Formula, map-Formula, ind-Formula, every_held-Formula}
-use Rattle.b_ast.specs.declared.Link.{Link, roll-Link, map-Link, out-Link, every_held-Link}
-use Rattle.b_ast.specs.declared.After.{After, roll-After, map-After, out-After, every_held-After}
+use Rattle.b_ast.specs.declared.Formula.{Formula, roll-Formula, map-Formula, ind-Formula}
+use Rattle.b_ast.specs.declared.Link.{Link, roll-Link, map-Link}
+use Rattle.b_ast.specs.declared.After.{After, roll-After, map-After}
 use Rattle.b_ast.specs.declared.After.TheOpen.{Formula-F, Link-F, After-F}
 
 module _ (PA : After → Type 0) (PF : Formula → Type 0) (PL : Link → Type 0) where

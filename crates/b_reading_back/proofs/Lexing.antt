@@ -1,12 +1,11 @@
 -- Texts that are read as tokens with given symbols.
-use Rattle.std.proofs.Common.{◌≡◌, ℕ, ◌+◌, ◌-◌, Bool, true, false, List, [], ◌∷◌, ◌++◌, length, take, drop, map, Some, None, Option, refl, sym, ap, ◌∙◌, subst, append_assoc, append-nil, length-append, arith}
+use Rattle.std.proofs.Common.{◌≡◌, ℕ, ◌+◌, ◌-◌, Bool, true, List, [], ◌∷◌, ◌++◌, length, take, drop, map, None, refl, sym, ap, ◌∙◌, subst, append_assoc, length-append, arith}
 use Rattle.std.specs.Prelude.{not}
 use Rattle.std.specs.List.{slice_range}
 use Rattle.std.proofs.Math.Seq.{take-append_seam, drop-append_seam}
 use Rattle.std.proofs.lemmas.List.{map-append}
 use Rattle.b_lex.specs.declared.tokens.Token.{Token}
 use Rattle.b_lex.specs.declared.tokens.TokenKind.{TokenKind}
-use Rattle.b_lex.specs.declared.tokens.LexKind.{LexKind}
 use Rattle.b_lex.specs.Bytes.{is_name_byte}
 use Rattle.b_lex.specs.Reading.{Reads, spelling}
 use Rattle.b_grammar.specs.declared.Symbol.{Symbol}

@@ -1,5 +1,5 @@
 -- No longer sign begins with a minus, unless a minus or `>` stands behind it.
-use Rattle.std.proofs.Common.{◌≡◌, ℕ, ◌≤◌, Bool, true, false, cond, ◌&&◌, List, [], ◌∷◌, length, map, refl, sym, ap, ◌∙◌, subst, arith, nat_le}
+use Rattle.std.proofs.Common.{◌≡◌, ℕ, ◌≤◌, Bool, true, false, cond, ◌&&◌, List, [], ◌∷◌, length, map, refl, ap, arith, nat_le}
 use Rattle.std.specs.Prelude.{not, ◌||◌, nat_eq, filter, max}
 use Rattle.std.specs.List.{list_all, list_any, starts_with}
 use Rattle.std.proofs.lemmas.Bool.{and_parts, leb-true}

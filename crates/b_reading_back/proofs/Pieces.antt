@@ -1,5 +1,5 @@
 -- The pieces of a canonical text are read as the parts of its tree.
-use Rattle.std.proofs.Common.{◌≡◌, ◌≢◌, ◌==◌, ℕ, Bool, true, false, List, [], ◌∷◌, ◌++◌, length, map, Some, None, refl, sym, ap, ◌∙◌, subst, eq-eqb}
+use Rattle.std.proofs.Common.{◌≡◌, ◌≢◌, ◌==◌, ℕ, List, [], ◌∷◌, ◌++◌, length, map, None, refl, sym, ap, ◌∙◌, subst, eq-eqb}
 use Rattle.std.specs.List.{AllByRecursion}
 use Rattle.b_ast.specs.declared.Place.{Place}
 use Rattle.b_ast.specs.declared.Bound.{Bound}
@@ -12,7 +12,6 @@ use Rattle.b_ast.specs.declared.Operator.{Operator}
 use Rattle.b_ast.specs.declared.Operator.TheVariants as operator
 use Rattle.b_ast.specs.declared.Formula.{Formula}
 use Rattle.b_ast.specs.declared.Formula.TheVariants as formula
-use Rattle.b_ast.specs.declared.Link.{Link}
 use Rattle.b_ast.specs.declared.After.{After}
 use Rattle.b_ast.specs.declared.After.TheVariants as after
 use Rattle.b_grammar.specs.declared.Mark.{Mark}
@@ -21,13 +20,13 @@ use Rattle.b_grammar.specs.declared.Symbol.{Symbol}
 use Rattle.b_grammar.specs.declared.Symbol.TheVariants as symbol
 use Rattle.b_grammar.specs.declared.Lexeme.{Lexeme}
 use Rattle.b_grammar.specs.Cuts.{Stands, IsDone, IsHeaded, IsEnded, IsPair, IsEach, IsMade, IsSuch}
-use Rattle.b_grammar.specs.Grammar.{Part, Listed, Names, link, chain, row, items, joined, priority, plain, bracketed, may_chain, arity, names_to_bar, bound_names, is_minus, IsAfterNames, IsPart, IsChain, IsNext, IsList, IsListing, IsCurly, IsCurlyBy, IsConditional, IsCall, IsOld, IsForm, IsAfter, IsRow, IsSigned, IsOperand}
+use Rattle.b_grammar.specs.Grammar.{Listed, Names, row, items, joined, plain, bracketed, arity, names_to_bar, bound_names, is_minus, IsAfterNames, IsNext, IsList, IsListing, IsCurly, IsCurlyBy, IsCall, IsOld, IsForm, IsAfter, IsRow, IsSigned, IsOperand}
 use Rattle.b_reading_back.specs.Laws.{symbols}
-use Rattle.b_reading_back.specs.Places.{nowhere, bare, bare_link, bare_after, bare_bounds}
-use Rattle.b_reading_back.specs.Symbols.{ended, round, commas, comma_each, names_to, binder_names, collector_names, links, afters, symbols_at, after_symbols}
-use Rattle.b_reading_back.proofs.Ways.{IsRead, lexeme, done_as, headed, closed, pair, no_more, one_more, made, such, first, second, within, first_alone}
-use Rattle.b_reading_back.proofs.Bare.{bare-Number, bare-Text, bare-Name, bare-Old, bare-Constant, bare-Negative, bare-Chain, bare-Row, bare-Call, bare-Set, bare-Sequence, bare-Comprehension, bare-Quantified, bare-Collected, bare-If, bare-Converse, bare-Apply, bare-Image, joined_link, bare-link}
-use Rattle.b_reading_back.proofs.BinderNames.{NamesRead, bars, bar_names, by_binder, by_collector, no_bar, listed_bars}
+use Rattle.b_reading_back.specs.Places.{nowhere, bare, bare_after, bare_bounds}
+use Rattle.b_reading_back.specs.Symbols.{ended, round, commas, comma_each, names_to, binder_names, collector_names, afters, symbols_at, after_symbols}
+use Rattle.b_reading_back.proofs.Ways.{IsRead, done_as, headed, closed, pair, no_more, one_more, made, such, first, second, first_alone}
+use Rattle.b_reading_back.proofs.Bare.{bare-Number, bare-Text, bare-Name, bare-Old, bare-Constant, bare-Negative, bare-Row, bare-Call, bare-Set, bare-Sequence, bare-Comprehension, bare-Quantified, bare-Collected, bare-If, bare-Converse, bare-Apply, bare-Image}
+use Rattle.b_reading_back.proofs.BinderNames.{bars, bar_names, by_binder, by_collector, no_bar, listed_bars}
 
 -- ---- lists
 
@@ -184,9 +183,6 @@ module _ (P : List ℕ → Stands Formula) where
   collected c ns ss rs b d ne r k =
       headed (IsForm P) bare (symbol.Collector c) (collector_names c ns ++ (ended ss sign.Bar ++ ended rs sign.RoundClose)) (formula.Collected nowhere c (bare_bounds ns) b d) (λ at. record { read = go at })
     where
-      Body : Place → List Bound → Stands Formula
-      Body at bs = IsMade (λ (x : Formula × Formula). formula.Collected at c bs x.0 x.1) (IsPair (IsEnded sign.Bar (P bracketed)) (IsEnded sign.RoundClose (P bracketed)))
-
       go : (at : Place) (ts : List Lexeme) → symbols ts ≡ collector_names c ns ++ (ended ss sign.Bar ++ ended rs sign.RoundClose)
           → (t : Formula)
           × IsAfterNames (bound_names ts) (λ bs. IsMade (λ (x : Formula × Formula). formula.Collected at c bs x.0 x.1) (IsPair (IsEnded sign.Bar (P bracketed)) (IsEnded sign.RoundClose (P bracketed)))) t
@@ -200,7 +196,7 @@ module _ (P : List ℕ → Stands Formula) where
             formula.Collected at c n.bounds x.0.0 x.0.1,
             subst (λ (q : Names). IsAfterNames q (λ bs. IsMade (λ (x : Formula × Formula). formula.Collected at c bs x.0 x.1) (IsPair (IsEnded sign.Bar (P bracketed)) (IsEnded sign.RoundClose (P bracketed)))) (formula.Collected at c n.bounds x.0.0 x.0.1)) (sym n.is) (x.0, x.1, refl),
             bare-Collected at c n.bounds x.0.0 x.0.1 ∙ ap (λ l. formula.Collected nowhere c l (bare x.0.0) (bare x.0.1)) n.same
-            ∙ ap (λ f. formula.Collected nowhere c (bare_bounds ns) f (bare x.0.1)) first_same ∙ ap (λ f. formula.Collected nowhere c (bare_bounds ns) b f) second_same,
+                ∙ ap (λ f. formula.Collected nowhere c (bare_bounds ns) f (bare x.0.1)) first_same ∙ ap (λ f. formula.Collected nowhere c (bare_bounds ns) b f) second_same,
           )
 
   pub conditional : (ss rs us : List Symbol) (b d f : Formula) → IsRead (P plain) bare ss b → IsRead (P plain) bare rs d → IsRead (P plain) bare us f

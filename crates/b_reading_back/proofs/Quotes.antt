@@ -1,5 +1,5 @@
 -- A string in quotes is read as what it stands for.
-use Rattle.std.proofs.Common.{inl, inr, ◌≡◌, ◌⊎◌, ℕ, ◌+◌, ◌-◌, ◌^◌, ◌<◌, ◌≤◌, ◌==◌, Bool, true, false, cond, List, [], ◌∷◌, ◌++◌, length, take, drop, Option, Some, None, refl, sym, ap, ◌∙◌, subst, append_assoc, length-append, flat_map, arith, nat_lt}
+use Rattle.std.proofs.Common.{inl, inr, ◌≡◌, ◌⊎◌, ℕ, ◌+◌, ◌-◌, ◌^◌, ◌≤◌, ◌==◌, Bool, true, false, cond, List, [], ◌∷◌, ◌++◌, length, take, drop, Some, None, refl, sym, ap, ◌∙◌, subst, append_assoc, length-append, flat_map, arith, nat_lt}
 use Rattle.std.specs.Prelude.{codes, encode_utf8}
 use Rattle.std.specs.List.{AllByRecursion}
 use Rattle.std.proofs.Math.Seq.{take-append_seam}
@@ -11,7 +11,7 @@ use Rattle.b_lex.specs.declared.tokens.Token.{Token}
 use Rattle.b_lex.specs.Reading.{Reads}
 use Rattle.b_lex.specs.Strings.{IsBody, is_plain, escape_of}
 use Rattle.b_grammar.specs.declared.Symbol.TheVariants as symbol
-use Rattle.b_grammar.specs.Symbols.{symbol_of, value_from, string_value, between}
+use Rattle.b_grammar.specs.Symbols.{value_from, between}
 use Rattle.b_print.specs.Texts.{spelling_of, quoted}
 use Rattle.b_reading_back.specs.Printable.{IsStringValue}
 use Rattle.b_reading_back.proofs.Lexing.{Lexes, IsTaken, Any, token}
@@ -68,7 +68,6 @@ escapes letter b e = quote (letter == 34) e
     quote true e = let same : 34 ≡ b = cc in inl (sym same)
     quote false e = slash (letter == 92) e
 
-
 plain_apart : (c k : ℕ) → is_plain c ≡ true → is_plain k ≡ false → c ≡ k → ⊥
 plain_apart c k p q e = let same : is_plain c ≡ is_plain k = ap is_plain e in cc
 
@@ -83,15 +82,15 @@ body_is body s (IsBody.plain c rest value scalar p more) = go (c == 9) refl (bod
     go false e h =
         let calm : Calm c = (plain_apart c 34 p refl, plain_apart c 92 p refl, plain_apart c 10 p refl, eqb-false c 9 e) in
         let same : flat_map spelling_of (encode_utf8 c ++ value) ≡ encode_utf8 c ++ flat_map spelling_of value =
-            flat_append (encode_utf8 c) value ∙ ap (λ (l : List ℕ). l ++ flat_map spelling_of value) (flat_calm (encode_utf8 c) (calm_bytes c calm)) in
+        flat_append (encode_utf8 c) value ∙ ap (λ (l : List ℕ). l ++ flat_map spelling_of value) (flat_calm (encode_utf8 c) (calm_bytes c calm)) in
         subst (λ (l : List ℕ). IsBody l (encode_utf8 c ++ value)) (sym same) (IsBody.plain c (flat_map spelling_of value) value scalar p h)
 body_is body s (IsBody.escaped letter b rest value e more) =
     elim (escapes letter b e) [
-      inl i ↦ at_byte b 34 i (IsBody.escaped 34 34 (flat_map spelling_of value) value refl (body_is rest value more))
+      | inl i ↦ at_byte b 34 i (IsBody.escaped 34 34 (flat_map spelling_of value) value refl (body_is rest value more))
       | inr k ↦ (elim k [
-        inl i ↦ at_byte b 92 i (IsBody.escaped 92 92 (flat_map spelling_of value) value refl (body_is rest value more))
+        | inl i ↦ at_byte b 92 i (IsBody.escaped 92 92 (flat_map spelling_of value) value refl (body_is rest value more))
         | inr l ↦ (elim l [
-          inl i ↦ at_byte b 10 i (IsBody.escaped 110 10 (flat_map spelling_of value) value refl (body_is rest value more))
+          | inl i ↦ at_byte b 10 i (IsBody.escaped 110 10 (flat_map spelling_of value) value refl (body_is rest value more))
           | inr i ↦ at_byte b 9 i (IsBody.escaped 116 9 (flat_map spelling_of value) value refl (body_is rest value more))
         ])
       ])
@@ -105,9 +104,6 @@ value_back : (s : List ℕ) → value_from false (flat_map spelling_of s) ≡ s
 value_back [] = refl
 value_back (b ∷ s) = quote (b == 34) refl ∙ ap (λ (l : List ℕ). b ∷ l) (value_back s)
   where
-    rest : List ℕ
-    rest = flat_map spelling_of s
-
     plain : (t : Bool) → (b == 92) ≡ t → (b ≡ 92 → ⊥) → value_from false (b ∷ flat_map spelling_of s) ≡ b ∷ value_from false (flat_map spelling_of s)
     plain true e h = absurd (h (eqb-true b 92 e))
     plain false e h = ap (λ (t : Bool). cond t (value_from true (flat_map spelling_of s)) (b ∷ value_from false (flat_map spelling_of s))) e

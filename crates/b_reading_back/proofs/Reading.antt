@@ -1,24 +1,21 @@
 -- The symbols of a tree's canonical text are read as the tree.
 use borrow.Author.Tests.{ltb-true}
-use Rattle.std.proofs.Common.{◌≡◌, ◌≢◌, ◌<◌, ◌≤◌, ◌+◌, ◌==◌, ℕ, zero, suc, Bool, true, false, cond, List, [], ◌∷◌, ◌++◌, map, refl, sym, ap, ◌∙◌, subst, arith, nat_le, nat_lt, eq-eqb}
+use Rattle.std.proofs.Common.{◌≡◌, ◌≢◌, ◌<◌, ◌≤◌, ◌+◌, ℕ, zero, suc, Bool, true, false, cond, List, [], ◌∷◌, ◌++◌, map, refl, sym, ap, ◌∙◌, subst, arith, nat_le, nat_lt, eq-eqb}
 use Rattle.std.proofs.lemmas.Bool.Decides.{nat_tests}
 use Rattle.std.specs.List.{AllByRecursion}
 use Rattle.b_ast.specs.declared.Operator.{Operator}
 use Rattle.b_ast.specs.declared.Operator.TheVariants as operator
 use Rattle.b_ast.specs.declared.Formula.{Formula, roll-Formula, out-Formula, map-Formula, fold-roll-Formula, out-roll-Formula, every_here-Formula, every_held-Formula}
 use Rattle.b_ast.specs.declared.Formula.TheVariants as formula
-use Rattle.b_ast.specs.declared.Link.{Link, roll-Link, out-Link, map-Link, fold-roll-Link, out-roll-Link, every_held-Link}
+use Rattle.b_ast.specs.declared.Link.{Link, roll-Link, out-Link, fold-roll-Link, out-roll-Link, every_held-Link}
 use Rattle.b_ast.specs.declared.After.{After, roll-After, out-After, map-After, fold-roll-After, out-roll-After, every_held-After}
-use Rattle.b_ast.specs.declared.After.TheVariants as after
 use Rattle.b_ast.specs.declared.After.TheOpen.{Formula-F, Link-F, After-F}
 use Rattle.b_grammar.specs.declared.Mark.TheVariants as sign
-use Rattle.b_grammar.specs.declared.Symbol.{Symbol}
 use Rattle.b_grammar.specs.declared.Symbol.TheVariants as symbol
-use Rattle.b_grammar.specs.declared.Lexeme.{Lexeme}
-use Rattle.b_grammar.specs.Cuts.{Stands, IsHeaded}
-use Rattle.b_grammar.specs.Grammar.{priority, plain, bracketed, may_chain, IsChain, IsCutAt, IsForm, IsAfter, IsRow, IsOperand, IsFormula}
+use Rattle.b_grammar.specs.Cuts.{IsHeaded}
+use Rattle.b_grammar.specs.Grammar.{priority, plain, bracketed, IsCutAt, IsForm, IsAfter, IsRow, IsOperand, IsFormula}
 use Rattle.b_print.specs.Spellings as print
-use Rattle.b_reading_back.specs.Laws.{symbols, StandsForItself}
+use Rattle.b_reading_back.specs.Laws.{StandsForItself}
 use Rattle.b_reading_back.specs.Places as places
 use Rattle.b_reading_back.specs.Places.{nowhere, bare, bare_link, bare_after, bare_bounds}
 use Rattle.b_reading_back.specs.Printable.{Anything, LayerIsPrintable, MayChain, operators, IsPrintable, IsPrintableLink, IsPrintableAfter}
@@ -26,7 +23,7 @@ use Rattle.b_reading_back.specs.Symbols as written
 use Rattle.b_reading_back.specs.Symbols.{Row, Written, Joined, round, guarded, links, chain_binds, afters, symbols_at, after_symbols, link_symbols}
 use Rattle.b_reading_back.proofs.Layers.{Below, BelowAfter, BelowLink, by_layers, unlift, unlift_link, unlift_after}
 use Rattle.b_reading_back.proofs.Ways.{IsRead, within}
-use Rattle.b_reading_back.proofs.Climbing.{IsWithin, row_alone, operand_alone, cut_alone, above, is_level, climb}
+use Rattle.b_reading_back.proofs.Climbing.{row_alone, operand_alone, cut_alone, above, is_level, climb}
 use Rattle.b_reading_back.proofs.Bare.{joined_link}
 use Rattle.b_reading_back.proofs.Chains.{LinkIs, may_same, chain_read}
 use Rattle.b_reading_back.proofs.Pieces as piece
@@ -133,7 +130,7 @@ from_cuts p d ss b level positive small f = (suc d, go)
     go zero h = absurd (omega arith)
     go (suc k) h =
         let inside : IsRead (IsCutAt bracketed (IsOperand (IsFormula k))) bare ss b =
-            within (IsCutAt (p ∷ above p bracketed) (IsOperand (IsFormula k))) (IsCutAt bracketed (IsOperand (IsFormula k))) bare ss b (climb bracketed p 0 (IsOperand (IsFormula k)) refl level positive) (f k (omega arith)) in
+        within (IsCutAt (p ∷ above p bracketed) (IsOperand (IsFormula k))) (IsCutAt bracketed (IsOperand (IsFormula k))) bare ss b (climb bracketed p 0 (IsOperand (IsFormula k)) refl level positive) (f k (omega arith)) in
         let in_round : IsRead (IsHeaded (IsForm (IsFormula (suc k)))) bare (round ss) b = round_of k ss b inside in
         record {
           at_cut = λ n less. cut n (nat_lt n p) refl in_round;
@@ -331,7 +328,7 @@ layer_good (Formula-F.Chain e ls) here held below =
 layer_good (Formula-F.Row e fs) here held below =
     let g : Good (symbols_at e) (bare e) = below.0 held.0 in
     let r = common (λ k a. IsRead (IsHeaded (IsAfter (IsFormula k))) bare_after (after_symbols a) (bare_after a)) fs
-        (use_all IsPrintableAfter (λ a. (d : ℕ) × ((k : ℕ) → d ≤ k → IsRead (IsHeaded (IsAfter (IsFormula k))) bare_after (after_symbols a) (bare_after a))) fs held.1 below.1) in
+    (use_all IsPrintableAfter (λ a. (d : ℕ) × ((k : ℕ) → d ≤ k → IsRead (IsHeaded (IsAfter (IsFormula k))) bare_after (after_symbols a) (bare_after a))) fs held.1 below.1) in
     from_rows (g.0 + r.0) (symbols_at e 250 ++ afters (map after_symbols fs)) (formula.Row (bare e) (map bare_after fs))
     (λ k less. piece.with_forms (IsFormula k) (symbols_at e 250) (bare e) fs here (g.1 k (omega arith)).at_form (r.1 k (omega arith)))
 layer_good (Formula-F.Call at f us) here held below =

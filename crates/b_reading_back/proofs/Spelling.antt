@@ -1,7 +1,6 @@
 -- The canonical text of a tree is read as the symbols of the tree.
-use borrow.Author.Tests.{ltb-true}
-use Rattle.std.proofs.Common.{inl, inr, ◌≡◌, ◌≢◌, ◌⊎◌, ℕ, ◌+◌, ◌-◌, ◌^◌, ◌<◌, ◌≤◌, ◌==◌, Bool, true, false, cond, ◌&&◌, List, [], ◌∷◌, ◌++◌, length, take, drop, map, Some, None, refl, sym, ap, ◌∙◌, subst, append_assoc, append-nil, flat_map, arith, nat_le, nat_lt}
-use Rattle.std.specs.Prelude.{not, codes, nat_eq, decimal}
+use Rattle.std.proofs.Common.{◌≡◌, ◌≢◌, ℕ, ◌-◌, ◌^◌, ◌<◌, ◌≤◌, Bool, true, false, cond, List, [], ◌∷◌, ◌++◌, length, map, None, refl, sym, ap, ◌∙◌, subst, append_assoc, append-nil, flat_map, arith, nat_le}
+use Rattle.std.specs.Prelude.{codes, nat_eq, decimal}
 use Rattle.std.specs.List.{AllByRecursion}
 use Rattle.std.specs.Str.Parse.{AllDigits}
 use Rattle.std.proofs.lemmas.Bool.{and_parts, ne_eqb, le-leb, leb-true}
@@ -18,14 +17,14 @@ use Rattle.b_ast.specs.declared.Collector.TheVariants as collector
 use Rattle.b_ast.specs.declared.Operator.{Operator}
 use Rattle.b_ast.specs.declared.Operator.TheVariants as operator
 use Rattle.b_ast.specs.declared.Formula.{Formula, roll-Formula, out-Formula, map-Formula, fold-roll-Formula, out-roll-Formula, every_here-Formula, every_held-Formula}
-use Rattle.b_ast.specs.declared.Link.{Link, roll-Link, out-Link, map-Link, fold-roll-Link, out-roll-Link, every_held-Link}
+use Rattle.b_ast.specs.declared.Link.{Link, roll-Link, out-Link, fold-roll-Link, out-roll-Link, every_held-Link}
 use Rattle.b_ast.specs.declared.After.{After, roll-After, out-After, map-After, fold-roll-After, out-roll-After, every_held-After}
 use Rattle.b_ast.specs.declared.After.TheOpen.{Formula-F, Link-F, After-F}
 use Rattle.b_lex.specs.declared.tokens.TokenKind.TheVariants as kind
 use Rattle.b_lex.specs.Reading.{Reads}
 use Rattle.b_lex.specs.Fronts.{sign_front}
 use Rattle.b_reading_back.proofs.Minus.{minus_alone}
-use Rattle.b_lex.specs.Bytes.{is_letter, is_name_byte}
+use Rattle.b_lex.specs.Bytes.{is_letter}
 use Rattle.b_lex.specs.Spelling.{is_identifier}
 use Rattle.b_grammar.specs.declared.Mark.{Mark}
 use Rattle.b_grammar.specs.declared.Mark.TheVariants as sign
@@ -40,7 +39,7 @@ use Rattle.b_reading_back.specs.Printable.{Anything, LayerIsPrintable, MayChain,
 use Rattle.b_reading_back.specs.Symbols as written
 use Rattle.b_reading_back.specs.Symbols.{Row, Joined, symbols_at, after_symbols, link_symbols}
 use Rattle.b_reading_back.proofs.Layers.{Below, BelowAfter, BelowLink, by_layers, unlift, unlift_link, unlift_after}
-use Rattle.b_reading_back.proofs.Lexing.{Lexes, IsTaken, Any, Apart, ends_word, nothing, joined, freely, token, gap}
+use Rattle.b_reading_back.proofs.Lexing.{Lexes, IsTaken, Any, Apart, ends_word, nothing, joined, freely, token}
 use Rattle.b_reading_back.proofs.Tokens.{spelling_of_mark, operator_reads, function_reads, mark_reads, quantifier_reads, lambda_reads, collector_reads, dot_reads, bar_reads, if_reads, then_reads, else_reads, end_reads, name_reads, constant_reads, number_reads, digit_is, letter_range}
 use Rattle.b_reading_back.proofs.Quotes.{string_reads}
 
@@ -154,9 +153,6 @@ in_round bytes ss p =
     joined Any Any (codes "(") (bytes ++ codes ")") (symbol.Mark sign.RoundOpen ∷ []) (written.ended ss sign.RoundClose) (mark_reads Any sign.RoundOpen refl)
     (joined Apart Any bytes (codes ")") ss (symbol.Mark sign.RoundClose ∷ []) p (mark_reads Any sign.RoundClose refl) (λ rest g. refl))
     (λ rest g. tt)
-
-round_bytes : (bytes : List ℕ) → (codes "(" ++ bytes) ++ codes ")" ≡ texts.round bytes
-round_bytes bytes = refl
 
 guarded_read : (own n : ℕ) (bytes : List ℕ) (ss : List Symbol) → Lexes Apart bytes ss → Lexes Apart (texts.guarded own bytes n) (written.guarded own ss n)
 guarded_read own n bytes ss p = go (nat_le own n)
@@ -441,8 +437,8 @@ on_formula x below h =
     let out = unlift IsPrintableAfter IsPrintable IsPrintableLink (out-Formula (roll-Formula x)) (every_held-Formula Anything LayerIsPrintable Anything (roll-Formula x) h) in
     let held : Below IsPrintableAfter IsPrintable IsPrintableLink x = subst (λ (y : Formula-F After Formula Link). Below IsPrintableAfter IsPrintable IsPrintableLink y) (out-roll-Formula x) out in
     let good : LayerGood (text_at (roll-Formula x)) (symbols_at (roll-Formula x)) =
-        subst (λ (text : ℕ → List ℕ). LayerGood text (symbols_at (roll-Formula x))) (sym (fold-roll-Formula (List ℕ) texts.Written texts.Joined texts.after_step texts.formula_step texts.link_step x))
-        (subst (λ (ss : ℕ → List Symbol). LayerGood (text_step x) ss) (sym (fold-roll-Formula Row written.Written Joined written.after_step written.formula_step written.link_step x)) (layer_good x here held below)) in
+    subst (λ (text : ℕ → List ℕ). LayerGood text (symbols_at (roll-Formula x))) (sym (fold-roll-Formula (List ℕ) texts.Written texts.Joined texts.after_step texts.formula_step texts.link_step x))
+    (subst (λ (ss : ℕ → List Symbol). LayerGood (text_step x) ss) (sym (fold-roll-Formula Row written.Written Joined written.after_step written.formula_step written.link_step x)) (layer_good x here held below)) in
     record { lexes = good.0; fresh = good.1 }
 
 after_good : (x : After-F After Formula Link) → BelowAfter IsPrintableAfter IsPrintable IsPrintableLink x → BelowAfter PA PF PL x

@@ -1,6 +1,6 @@
 -- Each token of a canonical text is read as its symbol.
-use Rattle.std.proofs.Common.{inl, inr, ◌≡◌, ◌≢◌, ℕ, ◌+◌, ◌-◌, ◌^◌, ◌<◌, ◌≤◌, ◌==◌, Bool, true, false, cond, ◌&&◌, List, [], ◌∷◌, ◌++◌, length, take, drop, Some, None, refl, sym, ap, ◌∙◌, subst, append_assoc, length-append, flat_map, arith, nat_le, nat_lt}
-use Rattle.std.specs.Prelude.{not, codes, nat_eq, ◌||◌, ◌*◌, if◌then◌else◌}
+use Rattle.std.proofs.Common.{inl, inr, ◌≡◌, ◌≢◌, ℕ, ◌+◌, ◌-◌, ◌^◌, ◌<◌, ◌≤◌, ◌==◌, Bool, true, false, cond, ◌&&◌, List, [], ◌∷◌, ◌++◌, length, None, refl, sym, ap, ◌∙◌, subst, arith, nat_le, nat_lt}
+use Rattle.std.specs.Prelude.{not, codes, nat_eq, ◌||◌, ◌*◌}
 use Rattle.std.specs.Char.{digit_value}
 use Rattle.std.specs.List.{take_while, list_all, starts_with}
 use Rattle.std.specs.Fmt.{decimal}
@@ -24,17 +24,16 @@ use Rattle.b_lex.specs.declared.tokens.TokenKind.TheVariants as kind
 use Rattle.b_lex.specs.Tables.{signs, words, left_out_words, is_reserved}
 use Rattle.b_lex.specs.Bytes as byte
 use Rattle.b_lex.specs.Bytes.{is_letter, is_digit, is_name_byte, is_space}
-use Rattle.b_lex.specs.declared.tokens.Token.{Token}
 use Rattle.b_lex.specs.Reading.{Reads}
-use Rattle.b_lex.specs.Fronts.{Begins, front_of, word_front, number_front}
-use Rattle.b_lex.specs.Spelling.{is_identifier, are_digits}
+use Rattle.b_lex.specs.Fronts.{Begins, word_front, number_front}
+use Rattle.b_lex.specs.Spelling.{is_identifier}
 use Rattle.b_grammar.specs.declared.Mark.{Mark}
 use Rattle.b_grammar.specs.declared.Mark.TheVariants as sign
 use Rattle.b_grammar.specs.declared.Symbol.{Symbol}
 use Rattle.b_grammar.specs.declared.Symbol.TheVariants as symbol
 use Rattle.b_grammar.specs.Symbols.{symbol_of, fixed_of, spellings, number_symbol}
 use Rattle.b_print.specs.Spellings.{sign_of, function_word, constant_word, quantifier_sign, collector_word}
-use Rattle.b_reading_back.proofs.Lexing.{Lexes, IsTaken, Any, Apart, ends_word, token, joined, gap, freely}
+use Rattle.b_reading_back.proofs.Lexing.{Lexes, IsTaken, Any, Apart, ends_word, token, joined, gap}
 
 -- ---- signs and words that one byte follows
 
@@ -282,7 +281,7 @@ four_apart b h k l m = rw (ne_eqb b 32 h, ne_eqb b 9 k, ne_eqb b 13 l, ne_eqb b 
 
 pub letter_range : (b : ℕ) → is_letter b ≡ true → (65 ≤ b) × (b ≤ 122)
 letter_range b e = elim (or_cases (nat_le 65 b && nat_le b 90) (nat_le 97 b && nat_le b 122) e) [
-  inl h ↦ (let c = and_parts (nat_le 65 b) (nat_le b 90) h in let l : 65 ≤ b = leb-true 65 b c.0 in let m : b ≤ 90 = leb-true b 90 c.1 in (omega arith, omega arith))
+  | inl h ↦ (let c = and_parts (nat_le 65 b) (nat_le b 90) h in let l : 65 ≤ b = leb-true 65 b c.0 in let m : b ≤ 90 = leb-true b 90 c.1 in (omega arith, omega arith))
   | inr h ↦ (let c = and_parts (nat_le 97 b) (nat_le b 122) h in let l : 97 ≤ b = leb-true 97 b c.0 in let m : b ≤ 122 = leb-true b 122 c.1 in (omega arith, omega arith))
 ]
 

@@ -1,5 +1,5 @@
 -- What lists of lexemes with given symbols stand for, by each way to cut.
-use Rattle.std.proofs.Common.{◌≡◌, ◌⊎◌, inl, inr, ℕ, Bool, true, false, List, [], ◌∷◌, ◌++◌, map, refl, sym, ap, ◌∙◌, subst, append-nil}
+use Rattle.std.proofs.Common.{◌≡◌, inl, inr, Bool, true, List, [], ◌∷◌, ◌++◌, map, refl, sym, ap, ◌∙◌, subst, append-nil}
 use Rattle.b_ast.specs.declared.Place.{Place}
 use Rattle.b_grammar.specs.declared.Mark.{Mark}
 use Rattle.b_grammar.specs.declared.Symbol.{Symbol}

@@ -1,5 +1,5 @@
 -- The trees that the grammar has for some text, with definitions expanded.
-use Rattle.std.specs.Prelude.{◌≡◌, ◌≢◌, ℕ, ◌==◌, ◌<◌, ◌≤◌, ◌^◌, ◌-◌, true, false, List, [], ◌∷◌, length, map}
+use Rattle.std.specs.Prelude.{◌≡◌, ◌≢◌, ℕ, ◌<◌, ◌≤◌, ◌^◌, ◌-◌, true, false, List, [], ◌∷◌, length, map}
 use Rattle.std.specs.List.{AllByRecursion}
 use Rattle.b_ast.specs.declared.Bound.{Bound}
 use Rattle.b_ast.specs.declared.Operator.{Operator}
@@ -7,7 +7,7 @@ use Rattle.b_ast.specs.declared.Operator.TheVariants.{Comma}
 use Rattle.b_ast.specs.declared.Formula.{Formula, every-Formula}
 use Rattle.b_ast.specs.declared.Link.{Link, out-Link, every-Link}
 use Rattle.b_ast.specs.declared.After.{After, every-After}
-use Rattle.b_ast.specs.declared.After.TheOpen.{Formula-F, Link-F, After-F}
+use Rattle.b_ast.specs.declared.After.TheOpen.{Formula-F}
 use Rattle.b_lex.specs.Tables.{is_reserved}
 use Rattle.b_lex.specs.Spelling.{is_identifier}
 use Rattle.b_lex.specs.Strings.{IsBody}
