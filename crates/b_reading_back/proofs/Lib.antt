@@ -1,0 +1,14 @@
+pub mod Layers
+pub mod Ways
+pub mod Climbing
+pub mod Bare
+pub mod BinderNames
+pub mod Pieces
+pub mod Chains
+pub mod Reading
+pub mod Lexing
+pub mod Tokens
+pub mod Minus
+pub mod Quotes
+pub mod Spelling
+pub mod Back
