@@ -12,3 +12,8 @@ pub mod Minus
 pub mod Quotes
 pub mod Spelling
 pub mod Back
+pub mod Shallow
+pub mod Apart
+pub mod Alone
+pub mod Free
+pub mod Again

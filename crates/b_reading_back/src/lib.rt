@@ -1,7 +1,7 @@
 //! Canonical texts are read back as the trees that they were written from.
 #![tactic(auto)]
 
-ghost use Rattle.b_reading_back.specs.Laws.{StandsForItself, HasItsSymbols, IsReadBack, IsReadAsNothingElse, SamePriorities};
+ghost use Rattle.b_reading_back.specs.Laws.{StandsForItself, HasItsSymbols, IsReadBack, IsReadAsNothingElse, IsParsedAgain, SamePriorities};
 
 /// The printers and the grammar order the operators alike.
 pub fn priorities_agree()
@@ -25,9 +25,15 @@ pub fn reads_back()
     ensures alone { IsReadAsNothingElse }
 {}
 
+/// What is printed is parsed again: the canonical text of a formula of at most 1,000,000 nodes in which at most 100
+/// brackets are open at one place has, by `lex` and `parse_formula` without definitions, the same tree apart from places.
+pub fn parses_again()
+    ensures { IsParsedAgain }
+{}
+
 #[cfg(test)]
 mod tests {
-    use super::{has_its_symbols, priorities_agree, reads_back, stands_for_itself};
+    use super::{has_its_symbols, parses_again, priorities_agree, reads_back, stands_for_itself};
 
     #[test]
     fn laws() {
@@ -35,5 +41,6 @@ mod tests {
         stands_for_itself();
         has_its_symbols();
         reads_back();
+        parses_again();
     }
 }
