@@ -1,2 +1,9 @@
 //! The parser of formulas.
 #![tactic(auto)]
+
+mod formulas;
+mod texts;
+
+pub use b_read_expr::{Unread, tree_of};
+pub use formulas::parse_formula;
+pub use texts::tree_of_text;

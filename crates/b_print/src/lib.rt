@@ -1,2 +1,7 @@
 //! Canonical texts of formulas.
 #![tactic(auto)]
+
+pub mod spellings;
+#[cfg(test)]
+mod tests;
+pub mod texts;

@@ -1,0 +1,62 @@
+//! Formulas with their definitions expanded.
+ghost use Rattle.std.specs.Prelude.{◌≡◌, ◌≤◌, length};
+ghost use Rattle.b_lex.specs.Reading.{AreSpans};
+ghost use Rattle.b_parse_expr.specs.Verdicts as spec;
+
+use crate::texts::tree_of_text;
+use b_ast::FormulaText;
+use b_ast::machine::DefTable;
+use b_expand::{ParseFault, ParseKind, Unexpanded, Unfit, expand};
+use b_lex::Token;
+use std::alloc::Global;
+
+fn kind_of(why: Unfit) -> ParseKind
+    ensures { result ≡ spec.kind_of why }
+{
+    match why {
+        Unfit::NotASentence => ParseKind::NotASentence,
+        Unfit::TooDeep => ParseKind::TooDeep,
+        Unfit::TooWide => ParseKind::TooWide,
+    }
+}
+
+fn fault_of(unexpanded: Unexpanded, end: u64) -> ParseFault
+    ensures { result ≡ spec.fault_of unexpanded end }
+{
+    match unexpanded {
+        Unexpanded::Refused(why, at) => ParseFault::Refused {
+            kind: kind_of(why),
+            at: at.min(end),
+        },
+        Unexpanded::Memory => ParseFault::Memory,
+    }
+}
+
+// The answer of an expansion for a text that ends there.
+fn answer_of(answer: Result<FormulaText, Unexpanded>, end: u64) -> Result<FormulaText, ParseFault>
+    ensures { result ≡ spec.passed_on answer end }
+{
+    match answer {
+        Ok(formula) => Ok(formula),
+        Err(unexpanded) => Err(fault_of(unexpanded, end)),
+    }
+}
+
+/// The formula of a text, with the definitions of the table expanded.
+pub fn parse_formula(
+    alloc: Global,
+    text: &[u8],
+    tokens: &[Token],
+    defs: &DefTable,
+) -> Result<FormulaText, ParseFault>
+    requires { AreSpans 0 (length text.now) tokens.now }
+    ensures { spec.Parses text.now tokens.now defs.now.defs result }
+{
+    match tree_of_text(alloc, text, tokens) {
+        Ok(tree) => {
+            let answer = expand(alloc, defs, &tree);
+            answer_of(answer, text.len() as u64)
+        }
+        Err(fault) => Err(fault),
+    }
+}

@@ -1,0 +1,231 @@
+//! Small steps of reading.
+ghost use Rattle.std.specs.Prelude.{◌≡◌, ◌≤◌, length};
+ghost use Rattle.b_grammar.specs.Grammar as grammar;
+ghost use Rattle.b_grammar.specs.Descent as descent;
+ghost use Rattle.b_read_expr.specs.Reading as spec;
+
+use crate::Unread;
+use crate::reading::{Bracket, Joint, Opener};
+use b_ast::{Formula, Link, Operator, Place};
+use b_grammar::{Lexeme, Mark, Symbol};
+use sqlite_items::Items;
+use std::alloc::Global;
+
+/// Reading stopped before these lexemes.
+pub fn no_tree(lexemes: &[Lexeme]) -> Unread
+    ensures { spec.IsNoTree result }
+{
+    Unread::NoTree(lexemes.len())
+}
+
+/// The first lexeme and the others.
+pub fn next(lexemes: &[Lexeme]) -> Result<(&Lexeme, &[Lexeme]), Unread>
+    ensures { spec.IsFirst lexemes.now result }
+{
+    match lexemes {
+        [first, rest @ ..] => Ok((first, rest)),
+        [] => Err(Unread::NoTree(0)),
+    }
+}
+
+pub fn mark_of(symbol: &Symbol) -> Option<Mark>
+    ensures { result ≡ grammar.mark_of symbol.now }
+{
+    match symbol {
+        Symbol::Mark(mark) => Some(*mark),
+        _ => None,
+    }
+}
+
+pub fn is_minus(symbol: &Symbol) -> bool
+    ensures { result ≡ grammar.is_minus symbol.now }
+{
+    matches!(symbol, Symbol::Operator(Operator::Minus))
+}
+
+fn is_mark(mark: Mark, symbol: &Symbol) -> bool
+    ensures { result ≡ descent.is_mark mark (grammar.mark_of symbol.now) }
+{
+    match symbol {
+        Symbol::Mark(found) => *found == mark,
+        _ => false,
+    }
+}
+
+/// What stands behind this mark.
+pub fn behind(lexemes: &[Lexeme], mark: Mark) -> Result<&[Lexeme], Unread>
+    ensures { spec.Leaves (spec.behind mark) lexemes.now result }
+{
+    let (first, rest) = next(lexemes)?;
+    if is_mark(mark, &first.symbol) {
+        Ok(rest)
+    } else {
+        Err(no_tree(lexemes))
+    }
+}
+
+/// What stands behind a dot and an opening bracket.
+pub fn after_dot(lexemes: &[Lexeme]) -> Result<&[Lexeme], Unread>
+    ensures { spec.Leaves grammar.after_dot lexemes.now result }
+{
+    behind(behind(lexemes, Mark::Dot)?, Mark::RoundOpen)
+}
+
+fn opener_of(symbol: &Symbol) -> Option<Opener>
+    ensures { result ≡ spec.opener_of symbol.now }
+{
+    match symbol {
+        Symbol::Mark(Mark::Converse) => Some(Opener::Converse),
+        Symbol::Mark(Mark::RoundOpen) => Some(Opener::Application),
+        Symbol::Mark(Mark::SquareOpen) => Some(Opener::Image),
+        _ => None,
+    }
+}
+
+/// What begins a form after an operand, if it stands at the front, its place, and what stands behind it.
+pub fn opener_at(lexemes: &[Lexeme]) -> Option<(Opener, Place, &[Lexeme])>
+    ensures { spec.BeginsAfter lexemes.now result }
+{
+    match next(lexemes) {
+        Ok((first, rest)) => match opener_of(&first.symbol) {
+            Some(opener) => Some((opener, first.at, rest)),
+            None => None,
+        },
+        Err(_) => None,
+    }
+}
+
+/// What stands behind a comma.
+pub fn after_comma(lexemes: &[Lexeme]) -> Option<&[Lexeme]>
+    ensures { spec.AfterComma lexemes.now result }
+{
+    match behind(lexemes, Mark::Comma) {
+        Ok(rest) => Some(rest),
+        Err(_) => None,
+    }
+}
+
+/// The first of the priorities and the others.
+pub fn loosest(levels: &[u64]) -> Option<(u64, &[u64])>
+    ensures { spec.IsLoosest levels.now result }
+{
+    match levels {
+        [first, rest @ ..] => Some((*first, rest)),
+        [] => None,
+    }
+}
+
+fn priority(operator: Operator) -> u64
+    ensures { result ≡ grammar.priority operator }
+{
+    match operator {
+        Operator::Power => 200,
+        Operator::Times | Operator::Divide | Operator::Modulo => 190,
+        Operator::Plus | Operator::Minus => 180,
+        Operator::Interval => 170,
+        Operator::Maplet
+        | Operator::Union
+        | Operator::Intersection
+        | Operator::Concatenation
+        | Operator::Prepend
+        | Operator::Append
+        | Operator::Take
+        | Operator::Drop
+        | Operator::DomainRestriction
+        | Operator::RangeRestriction
+        | Operator::DomainSubtraction
+        | Operator::RangeSubtraction
+        | Operator::Overriding
+        | Operator::DirectProduct => 160,
+        Operator::Relations
+        | Operator::PartialFunctions
+        | Operator::TotalFunctions
+        | Operator::PartialInjections
+        | Operator::TotalInjections
+        | Operator::PartialSurjections
+        | Operator::TotalSurjections
+        | Operator::TotalBijections => 125,
+        Operator::Member
+        | Operator::NotMember
+        | Operator::Subset
+        | Operator::NotSubset
+        | Operator::StrictSubset
+        | Operator::NotStrictSubset
+        | Operator::Equal
+        | Operator::NotEqual
+        | Operator::Less
+        | Operator::Greater
+        | Operator::LessOrEqual
+        | Operator::GreaterOrEqual => 60,
+        Operator::Equivalence => 50,
+        Operator::And | Operator::Or => 40,
+        Operator::Implication => 30,
+        Operator::Composition | Operator::ParallelProduct => 20,
+        Operator::Comma => 0,
+    }
+}
+
+fn joining(joint: Joint, symbol: &Symbol) -> Option<Operator>
+    ensures { result ≡ spec.joining joint symbol.now }
+{
+    match (joint, symbol) {
+        (Joint::Priority(wanted), Symbol::Operator(found)) => {
+            if priority(*found) == wanted {
+                Some(*found)
+            } else {
+                None
+            }
+        }
+        (Joint::Comma(operator), Symbol::Mark(Mark::Comma)) => Some(operator),
+        _ => None,
+    }
+}
+
+/// The operator that the joint at the front stands for, its place, and what stands behind it.
+pub fn joint_at(lexemes: &[Lexeme], joint: Joint) -> Option<(Operator, Place, &[Lexeme])>
+    ensures { spec.BeginsWith joint lexemes.now result }
+{
+    match next(lexemes) {
+        Ok((first, rest)) => match joining(joint, &first.symbol) {
+            Some(operator) => Some((operator, first.at, rest)),
+            None => None,
+        },
+        Err(_) => None,
+    }
+}
+
+/// Two comparisons don't stand in one chain.
+pub fn may_link(joint: Joint, links: &Items<Link>) -> bool
+    ensures { result ≡ spec.may_link joint links.now }
+{
+    match joint {
+        Joint::Priority(priority) => priority != 60 || links.len() < 2,
+        Joint::Comma(_) => true,
+    }
+}
+
+pub fn close_of(bracket: Bracket) -> Mark
+    ensures { result ≡ spec.close_of bracket }
+{
+    match bracket {
+        Bracket::Round => Mark::RoundClose,
+        Bracket::Curly => Mark::CurlyClose,
+        Bracket::Square => Mark::SquareClose,
+    }
+}
+
+/// A name, or the old value of a variable.
+pub fn named<'a>(
+    alloc: Global,
+    name: &Items<u8>,
+    at: Place,
+    lexemes: &'a [Lexeme],
+) -> Result<(Formula, &'a [Lexeme]), Unread>
+    ensures { spec.Reads (spec.named name.now at) lexemes.now result }
+{
+    let name = Items::from_slice(alloc, name.as_slice())?;
+    match behind(lexemes, Mark::Old) {
+        Ok(rest) => Ok((Formula::Old(at, name), rest)),
+        Err(_) => Ok((Formula::Name(at, name), lexemes)),
+    }
+}
