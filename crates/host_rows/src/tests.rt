@@ -85,13 +85,15 @@ fn words(alloc: Global, given: &[&str]) -> Result<Vec<String>, AllocError> {
     Ok(words)
 }
 
-// What a run left: its status, its text, and of its session the end, the lines, the marks that are set, and the output.
+// What a run left: its status, its text, and of its session the end, the lines, the marks, how many are set, and the
+// output.
 #[derive(Drop)]
 struct Seen {
     status: u8,
     text: Vec<u8>,
     end: Option<End>,
     lines: u64,
+    marks: Vec<bool>,
     marked: usize,
     states: u64,
     output: Vec<u8>,
@@ -103,6 +105,7 @@ fn see(alloc: Global, finished: Finished<MemOpener>, out: &MemSink) -> Result<Se
         text: Vec::from_slice(alloc, out.bytes())?,
         end: None,
         lines: 0,
+        marks: Vec::new(alloc),
         marked: 0,
         states: finished.names.len(),
         output: Vec::new(alloc),
@@ -110,6 +113,7 @@ fn see(alloc: Global, finished: Finished<MemOpener>, out: &MemSink) -> Result<Se
     for end in &finished.sessions {
         seen.end = Some(end.end);
         seen.lines = end.lines;
+        seen.marks = Vec::from_slice(alloc, end.marks.as_slice())?;
         seen.marked = end.marks.as_slice().iter().filter(|mark| **mark).count();
         seen.output = Vec::from_slice(alloc, end.desk.sink.bytes())?;
     }

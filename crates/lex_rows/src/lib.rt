@@ -1,0 +1,5 @@
+//! Tables of texts and what the lexer cuts them into.
+#![tactic(auto)]
+
+#[cfg(test)]
+mod tests;
