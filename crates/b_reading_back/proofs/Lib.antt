@@ -12,3 +12,4 @@ pub mod Minus
 pub mod Quotes
 pub mod Spelling
 pub mod Back
+pub mod Blind

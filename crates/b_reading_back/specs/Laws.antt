@@ -1,7 +1,8 @@
 -- A formula is what its canonical text is read as.
-use Rattle.std.specs.Prelude.{◌≡◌, Bool, List, map}
+use Rattle.std.specs.Prelude.{◌≡◌, ◌↔◌, Bool, List, map}
 use Rattle.b_ast.specs.declared.Operator.{Operator}
 use Rattle.b_ast.specs.declared.Formula.{Formula}
+use Rattle.b_ast.specs.Sorts.{sort_of}
 use Rattle.b_lex.specs.declared.tokens.Token.{Token}
 use Rattle.b_lex.specs.Reading.{AreTokens}
 use Rattle.b_grammar.specs.declared.Symbol.{Symbol}
@@ -39,3 +40,11 @@ IsReadBack =
 abbrev pub IsReadAsNothingElse : Type 0
 IsReadAsNothingElse =
     (t : Formula) → IsPrintable t → (machine : Bool) (tokens : List Token) → AreTokens (text_of t) tokens → (u : Formula) → IsFormulaText (lexemes machine (text_of t) tokens) u → IsSameApartFromPlaces u t
+
+-- trees have one canonical text exactly if they are the same apart from places
+abbrev pub HaveOneText : Type 0
+HaveOneText = (t u : Formula) → IsPrintable t → IsPrintable u → (text_of t ≡ text_of u) ↔ IsSameApartFromPlaces t u
+
+-- and then they have one sort
+abbrev pub HaveOneSort : Type 0
+HaveOneSort = (t u : Formula) → IsSameApartFromPlaces t u → sort_of t ≡ sort_of u

@@ -1,7 +1,7 @@
 //! Canonical texts are read back as the trees that they were written from.
 #![tactic(auto)]
 
-ghost use Rattle.b_reading_back.specs.Laws.{StandsForItself, HasItsSymbols, IsReadBack, IsReadAsNothingElse, SamePriorities};
+ghost use Rattle.b_reading_back.specs.Laws.{StandsForItself, HasItsSymbols, IsReadBack, IsReadAsNothingElse, SamePriorities, HaveOneText, HaveOneSort};
 
 /// The printers and the grammar order the operators alike.
 pub fn priorities_agree()
@@ -25,9 +25,18 @@ pub fn reads_back()
     ensures alone { IsReadAsNothingElse }
 {}
 
+/// Trees that the grammar has for some text are the same apart from places exactly if they have one canonical text. Then
+/// both are expressions, or both predicates.
+pub fn one_canonical_text()
+    ensures text { HaveOneText }
+    ensures sort { HaveOneSort }
+{}
+
 #[cfg(test)]
 mod tests {
-    use super::{has_its_symbols, priorities_agree, reads_back, stands_for_itself};
+    use super::{
+        has_its_symbols, one_canonical_text, priorities_agree, reads_back, stands_for_itself,
+    };
 
     #[test]
     fn laws() {
@@ -35,5 +44,6 @@ mod tests {
         stands_for_itself();
         has_its_symbols();
         reads_back();
+        one_canonical_text();
     }
 }
