@@ -24,7 +24,8 @@ use Rattle.b_reading_back.specs.Places.{bare}
 use Rattle.b_reading_back.specs.Laws.{IsPrintedAgain, IsParsedAgain}
 use Rattle.b_reading_back.proofs.Back.{read_back}
 use Rattle.b_reading_back.proofs.Shallow.{shallow_lexemes, shallow_tree}
-use Rattle.b_reading_back.proofs.Apart.{is_free, same_sort, same_nodes, same_free}
+use Rattle.b_reading_back.proofs.Blind.{same_sort}
+use Rattle.b_reading_back.proofs.Apart.{is_free, same_nodes, same_free}
 use Rattle.b_reading_back.proofs.Free.{printable_free}
 use Rattle.b_reading_back.proofs.Alone.{stands_alone}
 
@@ -58,9 +59,9 @@ parsed_again t s h so few tokens are calm result parses =
     let r = read_back t h false tokens are in
     let u : Formula = r.0 in
     let same : bare u ≡ bare t = r.2 in
-    let free : is_free u ≡ true = sym (same_free u) ∙ ap is_free same ∙ same_free t ∙ printable_free t h in
-    let sorted : sort_of u ≡ Some s = sym (same_sort u) ∙ ap sort_of same ∙ same_sort t ∙ so in
-    let nodes : node_total u ≡ node_total t = sym (same_nodes u) ∙ ap node_total same ∙ same_nodes t in
+    let free : is_free u ≡ true = same_free u t same ∙ printable_free t h in
+    let sorted : sort_of u ≡ Some s = same_sort u t same ∙ so in
+    let nodes : node_total u ≡ node_total t = same_nodes u t same in
     let small : node_total u ≤ 1000000 = subst (λ (n : ℕ). n ≤ 1000000) (sym nodes) few in
     let shallow : deepest u ≤ 100 = shallow_tree (lexemes false (text_of t) tokens) u (shallow_lexemes (lexemes false (text_of t) tokens) calm) r.1 in
     answer u free sorted small shallow r.1 same result parses

@@ -1,14 +1,17 @@
 -- What is printed is read back.
-use Rattle.std.proofs.Common.{◌≡◌, ℕ, List, [], ◌++◌, refl, ◌∙◌, subst, append-nil}
+use Rattle.std.proofs.Common.{◌≡◌, ℕ, false, List, [], ◌++◌, refl, sym, ◌∙◌, subst, append-nil}
 use Rattle.b_ast.specs.declared.Formula.{Formula}
 use Rattle.b_lex.specs.declared.tokens.Token.{Token}
+use Rattle.b_lex.specs.Reading.{AreTokens}
 use Rattle.b_lex.proofs.OneReading.{one_row}
 use Rattle.b_grammar.specs.Symbols.{lexemes}
+use Rattle.b_grammar.specs.Grammar.{IsFormulaText}
 use Rattle.b_grammar.proofs.Deeper.{one_text}
 use Rattle.b_print.specs.Texts.{text_of}
 use Rattle.b_reading_back.specs.Symbols.{symbols_of}
-use Rattle.b_reading_back.specs.Places.{bare}
-use Rattle.b_reading_back.specs.Laws.{symbols, HasItsSymbols, IsReadBack, IsReadAsNothingElse}
+use Rattle.b_reading_back.specs.Places.{bare, IsSameApartFromPlaces}
+use Rattle.b_reading_back.specs.Laws.{symbols, HasItsSymbols, IsReadBack, IsReadAsNothingElse, HaveOneText}
+use Rattle.b_reading_back.proofs.Blind.{same_text}
 use Rattle.b_reading_back.proofs.Reading.{itself}
 use Rattle.b_reading_back.proofs.Lexing.{Spells, Spelled, read_behind}
 use Rattle.b_reading_back.proofs.Spelling.{text_good}
@@ -30,3 +33,14 @@ pub nothing_else : IsReadAsNothingElse
 nothing_else t h machine tokens are u k =
     let r = read_back t h machine tokens are in
     subst (λ (v : Formula). bare v ≡ bare t) (one_text (lexemes machine (text_of t) tokens) r.0 u r.1 k) r.2
+
+pub one_canonical : HaveOneText
+one_canonical t u h k = (back, same_text t u)
+  where
+    back : text_of t ≡ text_of u → IsSameApartFromPlaces t u
+    back e =
+        let r = has_symbols t h in
+        let v = read_back t h false r.0 r.1 in
+        let other : bare v.0 ≡ bare u =
+        nothing_else u k false r.0 (subst (λ (l : List ℕ). AreTokens l r.0) e r.1) v.0 (subst (λ (l : List ℕ). IsFormulaText (lexemes false l r.0) v.0) e v.1) in
+        sym v.2 ∙ other

@@ -12,6 +12,7 @@ pub mod Minus
 pub mod Quotes
 pub mod Spelling
 pub mod Back
+pub mod Blind
 pub mod Shallow
 pub mod Apart
 pub mod Alone

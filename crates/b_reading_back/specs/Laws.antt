@@ -1,5 +1,5 @@
 -- A formula is what its canonical text is read as.
-use Rattle.std.specs.Prelude.{◌≡◌, ◌≤◌, Bool, false, List, [], Some, Result, Ok, Err, map}
+use Rattle.std.specs.Prelude.{◌≡◌, ◌≤◌, ◌↔◌, Bool, false, List, [], Some, Result, Ok, Err, map}
 use Rattle.b_ast.specs.declared.Operator.{Operator}
 use Rattle.b_ast.specs.declared.Formula.{Formula}
 use Rattle.b_ast.specs.declared.FormulaText.{FormulaText}
@@ -48,6 +48,14 @@ IsReadBack =
 abbrev pub IsReadAsNothingElse : Type 0
 IsReadAsNothingElse =
     (t : Formula) → IsPrintable t → (machine : Bool) (tokens : List Token) → AreTokens (text_of t) tokens → (u : Formula) → IsFormulaText (lexemes machine (text_of t) tokens) u → IsSameApartFromPlaces u t
+
+-- trees have one canonical text exactly if they are the same apart from places
+abbrev pub HaveOneText : Type 0
+HaveOneText = (t u : Formula) → IsPrintable t → IsPrintable u → (text_of t ≡ text_of u) ↔ IsSameApartFromPlaces t u
+
+-- and then they have one sort
+abbrev pub HaveOneSort : Type 0
+HaveOneSort = (t u : Formula) → IsSameApartFromPlaces t u → sort_of t ≡ sort_of u
 
 -- the answer is the formula of this sort that was printed, apart from places, unless memory ran out
 abbrev pub IsPrintedAgain : Formula → Sort → Result FormulaText ParseFault → Type 0

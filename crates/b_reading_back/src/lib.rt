@@ -1,7 +1,7 @@
 //! Canonical texts are read back as the trees that they were written from.
 #![tactic(auto)]
 
-ghost use Rattle.b_reading_back.specs.Laws.{StandsForItself, HasItsSymbols, IsReadBack, IsReadAsNothingElse, IsParsedAgain, SamePriorities};
+ghost use Rattle.b_reading_back.specs.Laws.{StandsForItself, HasItsSymbols, IsReadBack, IsReadAsNothingElse, IsParsedAgain, HaveOneText, HaveOneSort, SamePriorities};
 
 /// The printers and the grammar order the operators alike.
 pub fn priorities_agree()
@@ -31,9 +31,19 @@ pub fn parses_again()
     ensures { IsParsedAgain }
 {}
 
+/// Trees that the grammar has for some text are the same apart from places exactly if they have one canonical text. Then
+/// both are expressions, or both predicates.
+pub fn one_canonical_text()
+    ensures text { HaveOneText }
+    ensures sort { HaveOneSort }
+{}
+
 #[cfg(test)]
 mod tests {
-    use super::{has_its_symbols, parses_again, priorities_agree, reads_back, stands_for_itself};
+    use super::{
+        has_its_symbols, one_canonical_text, parses_again, priorities_agree, reads_back,
+        stands_for_itself,
+    };
 
     #[test]
     fn laws() {
@@ -42,5 +52,6 @@ mod tests {
         has_its_symbols();
         reads_back();
         parses_again();
+        one_canonical_text();
     }
 }
