@@ -1,8 +1,9 @@
 // The host's one list of states.
-ghost use Rattle.std.specs.Prelude.{◌≡◌, [], ◌∷◌, length, OnOk, IfOk, slice_get};
+ghost use Rattle.std.specs.Prelude.{◌≡◌, [], ◌∷◌, length, OnOk, OnErr, IfOk, slice_get};
 ghost use Rattle.std.specs.Option.{option_copied};
 ghost use Rattle.b_values.specs.declared.values.State.TheVariants.{Root};
 ghost use Rattle.animator.specs.Names.{place, IsNamed, AreDistinct, Extends};
+ghost use Rattle.host_top.specs.Placed.{with_state};
 
 use b_values::{State, same_state};
 use sqlite_items::Items;
@@ -70,6 +71,8 @@ impl Names {
         ensures named { OnOk result (IsNamed self.new state.now) }
         ensures number { IfOk result (λ n. n ≡ place self.new state.now) }
         ensures extends { Extends self.old self.new }
+        ensures exact { OnOk result (self.new ≡ with_state self.old state.now) }
+        ensures same { OnErr result (self.new ≡ self.old) }
     {
         let number = place_in(self.states.as_slice(), state);
         if number == self.states.len() {

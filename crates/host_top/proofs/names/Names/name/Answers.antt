@@ -22,3 +22,6 @@ returns-in_ok-push-clause-number c =
 
 pub returns-else-number-len-clause-named : goal.returns-else-number-len-clause-named
 returns-else-number-len-clause-named c = let within = place-le c.self.inside.states c.args.state.now in grind (arith, within)
+
+pub returns-else-number-len-clause-exact : goal.returns-else-number-len-clause-exact
+returns-else-number-len-clause-exact c = let within = place-le c.self.inside.states c.args.state.now in grind (arith, within)
