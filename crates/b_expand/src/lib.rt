@@ -81,6 +81,3 @@ fn text_of(formula: Formula, sort: Sort) -> FormulaText
         Sort::Implication => FormulaText::Pred(Pred { formula }),
     }
 }
-
-#[cfg(test)]
-mod tests;

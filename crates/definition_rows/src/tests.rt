@@ -1,0 +1,180 @@
+// Texts with definitions, and the canonical texts of what they stand for.
+use b_ast::machine::{Def, DefBody, DefTable};
+use b_ast::{Expr, Formula, FormulaText, Pred};
+use b_expand::{ParseFault, ParseKind};
+use b_lex::lex;
+use b_parse_expr::{parse_formula, tree_of_text};
+use b_print::texts::{print_expr, print_pred};
+use sqlite_items::Items;
+use std::alloc::{AllocError, Global};
+use std::test::Fail;
+
+fn tree(alloc: Global, text: &str) -> Result<Formula, Fail> {
+    let tokens = lex(alloc, text.as_bytes())?;
+    match tree_of_text(alloc, text.as_bytes(), &tokens) {
+        Ok(tree) => Ok(tree),
+        Err(_) => Err(Fail::from("a body without a tree")),
+    }
+}
+
+fn params(alloc: Global, text: &str) -> Result<Items<Items<u8>>, AllocError> {
+    let mut names = Items::new(alloc);
+    for name in text.bytes() {
+        if name != b',' {
+            names.push(Items::from_slice(alloc, &[name])?)?;
+        }
+    }
+    Ok(names)
+}
+
+// A definition `d:p,q:body`, whose names have one letter. A body of a predicate begins with `?`.
+fn definition(alloc: Global, text: &str) -> Result<Def, Fail> {
+    let Some((name, rest)) = text.split_once(':') else {
+        return Err(Fail::from("a definition without parameters"));
+    };
+    let Some((names, body)) = rest.split_once(':') else {
+        return Err(Fail::from("a definition without a body"));
+    };
+    let body = match body.strip_prefix('?') {
+        Some(predicate) => DefBody::Pred(Pred {
+            formula: tree(alloc, predicate)?,
+        }),
+        None => DefBody::Expr(Expr {
+            formula: tree(alloc, body)?,
+        }),
+    };
+    Ok(Def {
+        name: Items::from_slice(alloc, name.as_bytes())?,
+        params: params(alloc, names)?,
+        body,
+        at: 0,
+    })
+}
+
+// Definitions with `;;` between them.
+fn table(alloc: Global, text: &str) -> Result<DefTable, Fail> {
+    let mut defs = Items::new(alloc);
+    for part in text.split(";;") {
+        if !part.is_empty() {
+            defs.push(definition(alloc, part)?)?;
+        }
+    }
+    Ok(DefTable { defs })
+}
+
+// The canonical text of what a text stands for, or why it is no formula.
+fn shown(alloc: Global, defs: &DefTable, text: &[u8]) -> Result<Vec<u8>, Fail> {
+    let tokens = lex(alloc, text)?;
+    match parse_formula(alloc, text, &tokens, defs) {
+        Ok(FormulaText::Expr(e)) => Ok(print_expr(alloc, &e)?),
+        Ok(FormulaText::Pred(p)) => Ok(print_pred(alloc, &p)?),
+        Err(ParseFault::Refused { kind, at: _ }) => match kind {
+            ParseKind::NotASentence => Ok(b"none".to_vec(alloc)?),
+            ParseKind::TooDeep => Ok(b"deep".to_vec(alloc)?),
+            ParseKind::TooWide => Ok(b"wide".to_vec(alloc)?),
+            _ => Err(Fail::from("another kind")),
+        },
+        Err(ParseFault::Memory) => Err(Fail::from("no memory")),
+    }
+}
+
+// Each line has definitions, a text, and what it stands for.
+const ROWS: &str = "@1 + 2@1 + 2
+@f(1,2)@f(1 |-> 2)
+d::1@d + d@1 + 1
+d::1 + 2@d * 3@(1 + 2) * 3
+d::1 - 2@d - 3@(1 - 2) - 3
+d:p,q:p - q@d(1,2) * 3@(1 - 2) * 3
+d:p,q:q - p@d(1,2)@2 - 1
+d:p:p + p@d(1 + 2)@(1 + 2) + (1 + 2)
+d:p:1@d(2)@1
+d:p:1@d(1 = 2)@1
+d:p:1@d(1 + (1 = 2))@none
+d::1;;e::d + d@e * e@(1 + 1) * (1 + 1)
+d::e;;e::1@d@e
+d::1;;d::2@d@1
+d::1;;d::d@d@1
+d:p:p;;d:p,q:q@d(3)@3
+e::p + 1;;d:p:e * 2@d(5)@(p + 1) * 2
+e::1;;d:e:e + 1@d(5)@5 + 1
+d:p,p:p@d(1,2)@1
+d:p:#x.(x = p)@d(1)@none
+d:p:?#x.(x = p)@d(1)@#x.(x = 1)
+d:p:?#x.(x = p)@d(x)@#x.(x = x)
+d:p:?#p.(p = 1)@d(1)@none
+d::1@#d.(d = 1)@none
+d::1@{d | d = 1}@none
+d::1@SIGMA(d).(d = 1 | d)@none
+d:p:p + 1@d@none
+d:p:p + 1@d(1,2)@none
+d:p,q:p + q@d(1)@none
+d:p,q:p + q@d((1,2))@none
+d:p,q:p + q@d[1]@none
+d:p:p@d((1,2))@1 |-> 2
+d:p:p@d(1)(2)@1(2)
+d:p:p@d(f(1))(2)@(f(1))(2)
+d::f@d(1)@f(1)
+d::f@d(1,2)@f(1 |-> 2)
+d::?1 = 1@d + 1@none
+d::?1 = 1@d & d@1 = 1 & 1 = 1
+d::?1 = 1@bool(d)@bool(1 = 1)
+d::1@d & 1 = 1@none
+d:p:p@d(1 = 2)@none
+d:p:?p & p@d(1 = 2)@1 = 2 & 1 = 2
+d:p:?p & p@d(1)@none
+d:p:?!x.(p)@d(x = 1 => x = 2)@!x.(x = 1 => x = 2)
+d:p:?!x.(p)@d(x = 1)@none
+d::?x = 1 => x = 2@!x.(d)@!x.(x = 1 => x = 2)
+d::1@x$0 + d@x$0 + 1
+x::1@x$0@x$0
+d:x:x$0@d(1)@x$0";
+
+#[test]
+fn rows(rt: HostRuntime) -> Result<(), Fail> {
+    for line in ROWS.lines() {
+        let Some((defs, rest)) = line.split_once('@') else {
+            return Err(Fail::from("a line without a text"));
+        };
+        let Some((text, wanted)) = rest.split_once('@') else {
+            return Err(Fail::from("a line without an answer"));
+        };
+        let defs = table(rt.alloc(), defs)?;
+        let said = shown(rt.alloc(), &defs, text.as_bytes())?;
+        assert!(rt; said.as_slice() == wanted.as_bytes(), "{line}");
+    }
+    Ok(())
+}
+
+// A text in so many round brackets.
+fn in_brackets(alloc: Global, text: &str, count: usize) -> Result<Vec<u8>, AllocError> {
+    let mut all = Vec::new(alloc);
+    for _ in 0..count {
+        all.push(b'(')?;
+    }
+    all.extend_from_slice(text.as_bytes())?;
+    for _ in 0..count {
+        all.push(b')')?;
+    }
+    Ok(all)
+}
+
+// A use puts its body one bracket deeper, and an argument stands one deeper than its parameter.
+#[test]
+fn depths(rt: HostRuntime) -> Result<(), Fail> {
+    let rows = [
+        ("d::1", "d", 99usize, "1"),
+        ("d::1", "d", 100, "deep"),
+        ("d::(1)", "d", 98, "1"),
+        ("d::(1)", "d", 99, "deep"),
+        ("d:p:(p)", "d(1)", 97, "1"),
+        ("d:p:(p)", "d(1)", 98, "deep"),
+        ("d:p:2", "d(1)", 99, "2"),
+    ];
+    for (defs, text, count, wanted) in rows {
+        let defs = table(rt.alloc(), defs)?;
+        let text = in_brackets(rt.alloc(), text, count)?;
+        let said = shown(rt.alloc(), &defs, &text)?;
+        assert!(rt; said.as_slice() == wanted.as_bytes(), "{count}");
+    }
+    Ok(())
+}
