@@ -1,4 +1,5 @@
 -- Lemmas of the expander.
 pub mod Naming
-pub mod Lists
+pub mod Tables
+pub mod Uses
 pub mod Work

@@ -1,75 +1,116 @@
--- What the expander's record of a text says: the table, the definitions that the text may use, and its scope.
-use Rattle.std.specs.Prelude.{ℕ, List, map, take, Option, slice_get, option_map, option_and_then}
-use Rattle.b_ast.specs.declared.Bound.{Bound}
+-- What the records of a text say: the definitions that it may use, and its scope.
+use Rattle.std.specs.Prelude.{◌≡◌, ℕ, Bool, List, map, take, Option, Some, None, slice_get, option_map}
 use Rattle.b_ast.specs.declared.machine.Def.{Def}
 use Rattle.b_ast.specs.declared.machine.DefBody.{DefBody}
 use Rattle.b_ast.specs.declared.Formula.{Formula}
 use Rattle.b_ast.specs.declared.Link.{Link}
 use Rattle.b_ast.specs.declared.After.{After}
+use Rattle.b_expand.specs.declared.names.Names.{Names}
 use Rattle.b_expand.specs.declared.expander.Standing.{Standing}
-use Rattle.b_expand.specs.Expansion as spec
-use Rattle.b_expand.specs.Expansion.{Scope, Meaning, Meanings, Reading, Form, Side}
+use Rattle.b_expand.specs.Places.{brackets}
+use Rattle.b_expand.specs.Expansion.{Scope}
+use Rattle.b_expand.specs.Filling as spec
+use Rattle.b_expand.specs.Filling.{Insert, Inserts, Filling, Form, Side, Part}
+use Rattle.b_expand.specs.Needed.{rows, listed_trees}
 
-abbrev pub scope_of : Standing → Scope
-scope_of t = record { round = t.round; params = t.params.now; trees = t.trees.now }
+-- ---- what names mean
 
-abbrev pub means_in : Standing → Meanings
-means_in t = spec.meanings t.table.now t.before.now
+abbrev pub means_in : Names → Inserts
+means_in n = spec.inserts n.before.now
 
--- the meaning of the definition at a place of the table
-abbrev pub meaning_at : Standing → ℕ → Option Meaning
-meaning_at t i = option_map (λ d. spec.meaning_of t.table.now (spec.meanings t.table.now (take i t.before.now)) d.params d.body) (slice_get t.before.now i)
+-- the definition at a place of those that the text may use
+abbrev pub insert_at : Names → ℕ → Option Insert
+insert_at n i = option_map (λ d. spec.insert_of (spec.inserts (take i n.before.now)) d.params d.body) (slice_get n.before.now i)
 
-abbrev pub reading_in : Standing → Formula → Reading
-reading_in t = spec.reading t.table.now (means_in t)
+-- the rows are those of the definitions
+abbrev pub AreNeeds : Names → Type 0
+AreNeeds n = n.needed.now ≡ rows n.before.now
 
-abbrev pub form_in : Standing → After → Form
-form_in t = spec.form_of t.table.now (means_in t)
+abbrev pub filling_in : Names → Formula → Filling
+filling_in n = spec.filling (means_in n)
 
-abbrev pub side_in : Standing → Link → Side
-side_in t = spec.side_of t.table.now (means_in t)
+abbrev pub form_in : Names → After → Form
+form_in n = spec.form_of (means_in n)
 
--- the tree that a tree of the text stands for
-abbrev pub tree_in : Standing → Formula → Option Formula
-tree_in t e = (reading_in t e).tree (scope_of t)
-
-abbrev pub trees_in : Standing → List Formula → Option (List Formula)
-trees_in t es = spec.trees (map (reading_in t) es) (scope_of t)
-
-abbrev pub links_in : Standing → List Link → Option (List Link)
-links_in t ls = spec.links (map (side_in t) ls) (scope_of t)
-
-abbrev pub forms_in : Standing → List After → Option (List After)
-forms_in t fs = spec.forms (map (form_in t) fs) (scope_of t)
-
-abbrev pub bound_in : Standing → List Bound → Option (List Bound)
-bound_in t xs = spec.bound t.table.now (scope_of t) xs
+abbrev pub side_in : Names → Link → Side
+side_in n = spec.side_of (means_in n)
 
 -- the definition that the head of a row calls
-abbrev pub called_in : Standing → Formula → Option (ℕ × Meaning)
-called_in t e = spec.called (means_in t) (scope_of t) (reading_in t e).name
+abbrev pub called_in : Names → Formula → Option (ℕ × Insert)
+called_in n e = spec.called (means_in n) n.params.now (filling_in n e).name
 
-abbrev pub row_in : Standing → Formula → List After → Option Formula
-row_in t e fs = spec.row (called_in t e) (reading_in t e) (map (form_in t) fs) (scope_of t)
+-- ---- names with a place
 
-abbrev pub plain_row_in : Standing → Formula → List After → Option Formula
-plain_row_in t e fs = spec.plain_row (reading_in t e) (map (form_in t) fs) (scope_of t)
+abbrev pub needs_in : Names → Formula → List ℕ → Bool
+needs_in n e x = (filling_in n e).part.needs n.params.now x
 
--- the arguments that a tree is, each with a sort
-abbrev pub arguments_in : Standing → Formula → Option (List Formula)
-arguments_in t e = spec.all_of (map spec.sorted (map (λ a. a (scope_of t)) (reading_in t e).arguments))
+abbrev pub any_need : Names → List Formula → List ℕ → Bool
+any_need n es x = spec.any_needs (spec.parts (map (filling_in n) es)) n.params.now x
 
-abbrev pub operands_in : Standing → List Link → Option (List Formula)
-operands_in t ls = spec.all_of (map spec.sorted (map (λ a. a (scope_of t)) (map (λ l. l.operand) (map (side_in t) ls))))
+abbrev pub any_link_needs : Names → List Link → List ℕ → Bool
+any_link_needs n ls x = spec.any_needs (spec.sides (map (side_in n) ls)) n.params.now x
 
--- a use of the definition at a place of the table
-abbrev pub used_in : Standing → ℕ → ℕ → List Formula → Option Formula
-used_in t i depth es = option_and_then (λ m. spec.used_with depth m (scope_of t) es) (meaning_at t i)
+abbrev pub any_form_needs : Names → List After → List ℕ → Bool
+any_form_needs n fs x = spec.any_form_needs (map (form_in n) fs) n.params.now x
+
+abbrev pub row_needs_in : Names → Formula → List After → List ℕ → Bool
+row_needs_in n e fs x = spec.row_needs (called_in n e) (filling_in n e) (map (form_in n) fs) n.params.now x
+
+abbrev pub plain_row_needs_in : Names → Formula → List After → List ℕ → Bool
+plain_row_needs_in n e fs x = spec.plain_row_needs (filling_in n e) (map (form_in n) fs) n.params.now x
+
+abbrev pub called_needs_in : Names → Option (ℕ × Insert) → Formula → List After → List ℕ → Bool
+called_needs_in n m e fs x = spec.row_needs m (filling_in n e) (map (form_in n) fs) n.params.now x
+
+-- ---- trees
+
+abbrev pub scope_of : Standing → Scope
+scope_of t = record { round = t.round; params = t.names.params.now; trees = t.trees.now }
+
+-- the tree that a tree of the text becomes
+abbrev pub tree_in : Standing → Formula → Formula
+tree_in t e = (filling_in t.names e).part.tree (scope_of t)
+
+abbrev pub trees_in : Standing → List Formula → List Formula
+trees_in t es = spec.trees (map (filling_in t.names) es) (scope_of t)
+
+abbrev pub links_in : Standing → List Link → List Link
+links_in t ls = spec.links (map (side_in t.names) ls) (scope_of t)
+
+abbrev pub forms_in : Standing → List After → List After
+forms_in t fs = spec.forms (map (form_in t.names) fs) (scope_of t)
+
+abbrev pub row_in : Standing → Formula → List After → Formula
+row_in t e fs = spec.row (called_in t.names e) (filling_in t.names e) (map (form_in t.names) fs) (scope_of t)
+
+abbrev pub called_row_in : Standing → Option (ℕ × Insert) → Formula → List After → Formula
+called_row_in t m e fs = spec.row m (filling_in t.names e) (map (form_in t.names) fs) (scope_of t)
+
+abbrev pub plain_row_in : Standing → Formula → List After → Formula
+plain_row_in t e fs = spec.plain_row (filling_in t.names e) (map (form_in t.names) fs) (scope_of t)
+
+-- the trees that the arguments of a use become, by what is needed
+abbrev pub arguments_in : Standing → Formula → List Bool → List Formula
+arguments_in t e bs = listed_trees (filling_in t.names e).arguments bs (scope_of t)
+
+abbrev pub operands_in : Standing → List Link → List Bool → List Formula
+operands_in t ls bs = listed_trees (spec.sides (map (side_in t.names) ls)) bs (scope_of t)
+
+-- the body of a definition with trees for its parameters
+abbrev pub body_of : Option Insert → ℕ → List Formula → Formula
+body_of (Some m) round es = m.body (record { round = round; params = m.params; trees = es })
+body_of None round es = spec.nothing
+
+abbrev pub round_in : Standing → ℕ → ℕ
+round_in t depth = brackets (brackets t.round depth) 1
+
+-- a use of the definition at a place
+abbrev pub used_in : Standing → ℕ → ℕ → List Formula → Formula
+used_in t i depth es = body_of (insert_at t.names i) (round_in t depth) es
 
 -- a use of a definition that may use some
-abbrev pub definition_in : Standing → Def → List Def → ℕ → List Formula → Option Formula
-definition_in t d ds depth es = spec.used_with depth (spec.meaning_of t.table.now (spec.meanings t.table.now ds) d.params d.body) (scope_of t) es
+abbrev pub definition_in : Standing → Def → List Def → ℕ → List Formula → Formula
+definition_in t d ds depth es = body_of (Some (spec.insert_of (spec.inserts ds) d.params d.body)) (round_in t depth) es
 
--- the body of a definition, if it is of the declared sort
-abbrev pub body_in : Standing → DefBody → Option Formula
-body_in t b = let m = spec.meaning_of t.table.now (means_in t) t.params.now b in spec.of_sort m.sort (m.body (scope_of t))
+abbrev pub body_in : Standing → DefBody → Formula
+body_in t b = (spec.insert_of (means_in t.names) t.names.params.now b).body (scope_of t)
