@@ -1,0 +1,3 @@
+-- Lemmas of printable trees.
+pub mod Every
+pub mod Under
