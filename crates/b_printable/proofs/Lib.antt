@@ -1,3 +1,5 @@
 -- Lemmas of printable trees.
 pub mod Every
 pub mod Under
+pub mod Parts
+pub mod Commas
