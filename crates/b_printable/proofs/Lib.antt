@@ -3,3 +3,4 @@ pub mod Every
 pub mod Under
 pub mod Parts
 pub mod Commas
+pub mod Expanding
