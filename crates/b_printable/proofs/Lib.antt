@@ -4,3 +4,4 @@ pub mod Under
 pub mod Parts
 pub mod Commas
 pub mod Expanding
+pub mod Again
