@@ -2,7 +2,7 @@
 use Rattle.std.proofs.Common.{◌≡◌, List, [], ◌∷◌, map, refl, ap, subst}
 use Rattle.std.specs.List.{AllByRecursion}
 use Rattle.b_ast.specs.declared.Formula.{Formula, roll-Formula, out-Formula, map-Formula, out-roll-Formula, every-Formula, every_here-Formula, every_held-Formula, every_made-Formula}
-use Rattle.b_ast.specs.declared.Link.{Link, roll-Link, out-Link, map-Link, out-roll-Link, every-Link, every_held-Link, every_made-Link}
+use Rattle.b_ast.specs.declared.Link.{Link, roll-Link, out-Link, out-roll-Link, every-Link, every_held-Link, every_made-Link}
 use Rattle.b_ast.specs.declared.After.{After, roll-After, out-After, map-After, out-roll-After, every-After, every_held-After, every_made-After}
 use Rattle.b_ast.specs.declared.After.TheOpen.{Formula-F, Link-F, After-F}
 use Rattle.b_reading_back.specs.Printable.{Anything}
@@ -14,6 +14,7 @@ lifted P [] h = ([], refl)
 lifted {X} P (x ∷ xs) h = let r = lifted P xs h.1 in ((x, h.0) ∷ r.0, ap (λ (zs : List X). x ∷ zs) r.1)
 
 module _ (Q : Formula-F After Formula Link → Type 0) where
+  -- each layer of the tree has it
   abbrev OfFormula : Formula → Type 0
   OfFormula = every-Formula Anything Q Anything
 
@@ -33,16 +34,19 @@ module _ (Q : Formula-F After Formula Link → Type 0) where
       let out = unlift OfAfter OfFormula OfLink (out-Formula (roll-Formula x)) (every_held-Formula Anything Q Anything (roll-Formula x) h) in
       subst (λ (y : Formula-F After Formula Link). Below OfAfter OfFormula OfLink y) (out-roll-Formula x) out
 
+  -- of a link
   pub held_link : (x : Link-F After Formula Link) → OfLink (roll-Link x) → BelowLink OfAfter OfFormula OfLink x
   held_link x h =
       let out = unlift_link OfAfter OfFormula OfLink (out-Link (roll-Link x)) (every_held-Link Anything Q Anything (roll-Link x) h) in
       subst (λ (y : Link-F After Formula Link). BelowLink OfAfter OfFormula OfLink y) (out-roll-Link x) out
 
+  -- of a form after an operand
   pub held_after : (x : After-F After Formula Link) → OfAfter (roll-After x) → BelowAfter OfAfter OfFormula OfLink x
   held_after x h =
       let out = unlift_after OfAfter OfFormula OfLink (out-After (roll-After x)) (every_held-After Anything Q Anything (roll-After x) h) in
       subst (λ (y : After-F After Formula Link). BelowAfter OfAfter OfFormula OfLink y) (out-roll-After x) out
 
+  -- parts with their proofs
   abbrev A' : Type 0
   A' = (v : After) × OfAfter v
 
@@ -52,6 +56,7 @@ module _ (Q : Formula-F After Formula Link → Type 0) where
   abbrev L' : Type 0
   L' = (v : Link) × OfLink v
 
+  -- the layer without the proofs
   abbrev bared : Formula-F A' F' L' → Formula-F After Formula Link
   bared = map-Formula A' F' L' After Formula Link (λ e. e.0) (λ e. e.0) (λ e. e.0)
 
@@ -77,13 +82,16 @@ module _ (Q : Formula-F After Formula Link → Type 0) where
   pub made : (x : Formula-F After Formula Link) (t : Formula) → roll-Formula x ≡ t → Q x → Below OfAfter OfFormula OfLink x → OfFormula t
   made x t e h k = let r = proved x k in subst OfFormula e (every_made-Formula Anything Q Anything x r.0 r.1 h)
 
+  -- of a link
   pub made_link : (x : Link-F After Formula Link) → BelowLink OfAfter OfFormula OfLink x → OfLink (roll-Link x)
   made_link x k = every_made-Link Anything Q Anything x (record { operator = x.operator; at = x.at; operand = (x.operand, k) }) refl tt
 
+  -- a form after an operand with the proof of its part
   proved_after : (x : After-F After Formula Link) → BelowAfter OfAfter OfFormula OfLink x → (y : After-F A' F' L') × (map-After A' F' L' After Formula Link (λ e. e.0) (λ e. e.0) (λ e. e.0) y ≡ x)
   proved_after (After-F.Converse at) k = (After-F.Converse at, refl)
   proved_after (After-F.Apply at e) k = (After-F.Apply at (e, k), refl)
   proved_after (After-F.Image at e) k = (After-F.Image at (e, k), refl)
 
+  -- a form after an operand whose part has it
   pub made_after : (x : After-F After Formula Link) (a : After) → roll-After x ≡ a → BelowAfter OfAfter OfFormula OfLink x → OfAfter a
   made_after x a e k = let r = proved_after x k in subst OfAfter e (every_made-After Anything Q Anything x r.0 r.1 tt)

@@ -1,5 +1,5 @@
 -- What holds of parts that may be missing.
-use Rattle.std.proofs.Common.{◌≡◌, ℕ, zero, suc, Bool, true, false, cond, List, [], ◌∷◌, map, length, Option, Some, None, refl, ap, ◌∙◌}
+use Rattle.std.proofs.Common.{◌≡◌, ℕ, zero, suc, Bool, true, false, cond, List, [], ◌∷◌, map, length, Option, Some, None, refl, ap}
 use Rattle.std.specs.Prelude.{IfSome, slice_get, option_map, option_and_then}
 use Rattle.std.specs.List.{AllByRecursion}
 use Rattle.b_expand.specs.Expansion.{both, all_three, all_of}
@@ -33,6 +33,7 @@ pub tested_if : {X : Type 0} (P : X → Type 0) (b : Bool) (o : Option X) → If
 tested_if P true o h = h
 tested_if P false o h = tt
 
+-- of what a test refuses
 pub refused_if : {X : Type 0} (P : X → Type 0) (b : Bool) (o : Option X) → IfSome o P → IfSome (cond b None o) P
 refused_if P true o h = tt
 refused_if P false o h = h
@@ -41,6 +42,7 @@ refused_if P false o h = h
 abbrev pub AreAll : {X : Type 0} → (X → Type 0) → ℕ → List X → Type 0
 AreAll P n xs = AllByRecursion P xs × (length xs ≡ n)
 
+-- of all, where all are there
 pub all_if : {X : Type 0} (P : X → Type 0) (os : List (Option X)) → AllByRecursion (λ o. IfSome o P) os → IfSome (all_of os) (AreAll P (length os))
 all_if P [] h = (tt, refl)
 all_if {X} P (o ∷ os) h =
@@ -62,7 +64,7 @@ pub many_mapped : {X Y : Type 0} (f : X → Y) (xs : List X) → length (map f x
 many_mapped f [] = refl
 many_mapped f (x ∷ xs) = ap (λ (n : ℕ). suc n) (many_mapped f xs)
 
--- with one fact for each element, the other follows
-pub use_each : {X : Type 0} (P G : X → Type 0) (xs : List X) → AllByRecursion P xs → AllByRecursion (λ x. P x → G x) xs → AllByRecursion G xs
-use_each P G [] h k = tt
-use_each P G (x ∷ xs) h k = (k.0 h.0, use_each P G xs h.1 k.1)
+-- of the image of each, where it follows from what holds of each
+pub each_image : {X Y : Type 0} (P : X → Type 0) (G : Y → Type 0) (f : X → Y) (xs : List X) → AllByRecursion P xs → AllByRecursion (λ x. P x → G (f x)) xs → AllByRecursion G (map f xs)
+each_image P G f [] h k = tt
+each_image P G f (x ∷ xs) h k = (k.0 h.0, each_image P G f xs h.1 k.1)
