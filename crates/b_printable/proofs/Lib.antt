@@ -1,7 +1,7 @@
+-- Lemmas of written and of printable trees.
 pub mod Goods
 pub mod GrammaticalLayers
 pub mod Grammatical
--- Lemmas of printable trees.
 pub mod Every
 pub mod Parts
 pub mod Under
