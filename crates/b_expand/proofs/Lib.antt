@@ -6,3 +6,4 @@ mod Layers
 pub mod PuttingNames
 pub mod PuttingUses
 pub mod PuttingLayers
+pub mod Putting
