@@ -1,7 +1,6 @@
 -- Where a formula expands, what it expands to is the formula with its definitions put in.
-use Rattle.std.proofs.Common.{◌≡◌, ℕ, Bool, true, false, cond, List, [], ◌∷◌, map, fold, Option, Some, None, refl, sym, ap, ◌∙◌, subst}
+use Rattle.std.proofs.Common.{◌≡◌, ℕ, Bool, true, false, cond, List, [], ◌∷◌, map, fold, Option, Some, None, refl, sym, subst}
 use Rattle.std.specs.Prelude.{bytes_eq}
-use Rattle.std.specs.List.{AllByRecursion}
 use Rattle.b_ast.specs.declared.Place.{Place}
 use Rattle.b_ast.specs.declared.machine.Def.{Def}
 use Rattle.b_ast.specs.declared.machine.DefBody.{DefBody}
@@ -23,22 +22,19 @@ use Rattle.b_expand.proofs.PuttingLayers.{pairs_of, alone_reads, none_puts, one_
 use Rattle.b_expand.proofs.Layers.{Below, BelowAfter, BelowLink, by_layers}
 
 module _ (table : List Def) (means : Meanings) (ins : Inserts) (same : SameNames means ins) where
-  abbrev E : Formula → Reading
-  E = reading table means
-
-  abbrev F : Formula → Filling
-  F = filling.filling ins
-
+  -- a formula reads the same with and without looking whether all is in order
   abbrev PF : Formula → Type 0
   PF t = Reads (reading table means t) (filling.filling ins t)
 
+  -- a form after an operand reads the same
   abbrev PA : After → Type 0
   PA a = FormPuts (form_of table means a) (filling.form_of ins a)
 
+  -- a link reads the same
   abbrev PL : Link → Type 0
   PL l = SidePuts (side_of table means l) (filling.side_of ins l)
 
-  -- a layer reads the same, once its steps do
+  -- a formula reads the same, once its steps do
   joint : (x : Formula-F After Formula Link)
       → Reads (expansion.formula_step table means (map-Formula After Formula Link expansion.Form Reading expansion.Side (form_of table means) (reading table means) (side_of table means) x))
       (filling.formula_step ins (map-Formula After Formula Link filling.Form Filling filling.Side (filling.form_of ins) (filling.filling ins) (filling.side_of ins) x))
@@ -46,8 +42,9 @@ module _ (table : List Def) (means : Meanings) (ins : Inserts) (same : SameNames
   joint x h =
       subst (λ (r : Reading). Reads r (filling.filling ins (roll-Formula x))) (sym (fold-roll-Formula expansion.Form Reading expansion.Side expansion.after_step (expansion.formula_step table means) expansion.link_step x))
       (subst (λ (f : Filling). Reads (expansion.formula_step table means (map-Formula After Formula Link expansion.Form Reading expansion.Side (form_of table means) (reading table means) (side_of table means) x)) f)
-        (sym (fold-roll-Formula filling.Form Filling filling.Side filling.after_step (filling.formula_step ins) filling.link_step x)) h)
+      (sym (fold-roll-Formula filling.Form Filling filling.Side filling.after_step (filling.formula_step ins) filling.link_step x)) h)
 
+  -- a form reads the same, once its steps do
   joint_after : (x : After-F After Formula Link)
       → FormPuts (expansion.after_step (map-After After Formula Link expansion.Form Reading expansion.Side (form_of table means) (reading table means) (side_of table means) x))
       (filling.after_step (map-After After Formula Link filling.Form Filling filling.Side (filling.form_of ins) (filling.filling ins) (filling.side_of ins) x))
@@ -55,8 +52,9 @@ module _ (table : List Def) (means : Meanings) (ins : Inserts) (same : SameNames
   joint_after x h =
       subst (λ (r : expansion.Form). FormPuts r (filling.form_of ins (roll-After x))) (sym (fold-roll-After expansion.Form Reading expansion.Side expansion.after_step (expansion.formula_step table means) expansion.link_step x))
       (subst (λ (f : filling.Form). FormPuts (expansion.after_step (map-After After Formula Link expansion.Form Reading expansion.Side (form_of table means) (reading table means) (side_of table means) x)) f)
-        (sym (fold-roll-After filling.Form Filling filling.Side filling.after_step (filling.formula_step ins) filling.link_step x)) h)
+      (sym (fold-roll-After filling.Form Filling filling.Side filling.after_step (filling.formula_step ins) filling.link_step x)) h)
 
+  -- a link reads the same, once its steps do
   joint_link : (x : Link-F After Formula Link)
       → SidePuts (expansion.link_step (map-Link After Formula Link expansion.Form Reading expansion.Side (form_of table means) (reading table means) (side_of table means) x))
       (filling.link_step (map-Link After Formula Link filling.Form Filling filling.Side (filling.form_of ins) (filling.filling ins) (filling.side_of ins) x))
@@ -64,8 +62,9 @@ module _ (table : List Def) (means : Meanings) (ins : Inserts) (same : SameNames
   joint_link x h =
       subst (λ (r : expansion.Side). SidePuts r (filling.side_of ins (roll-Link x))) (sym (fold-roll-Link expansion.Form Reading expansion.Side expansion.after_step (expansion.formula_step table means) expansion.link_step x))
       (subst (λ (f : filling.Side). SidePuts (expansion.link_step (map-Link After Formula Link expansion.Form Reading expansion.Side (form_of table means) (reading table means) (side_of table means) x)) f)
-        (sym (fold-roll-Link filling.Form Filling filling.Side filling.after_step (filling.formula_step ins) filling.link_step x)) h)
+      (sym (fold-roll-Link filling.Form Filling filling.Side filling.after_step (filling.formula_step ins) filling.link_step x)) h)
 
+  -- forms, layer by layer
   on_after : (x : After-F After Formula Link) → BelowAfter PA PF PL x → PA (roll-After x)
   on_after (After-F.Converse at) h = joint_after (After-F.Converse at) (record { arguments = tt; form = record { gives = λ n ps ts us a t e. cc } })
   on_after (After-F.Apply at x) h =
@@ -79,6 +78,7 @@ module _ (table : List Def) (means : Meanings) (ins : Inserts) (same : SameNames
         form = record { gives = λ n ps ts us a. gives_map (after.Image (deeper_place n at)) ((reading table means x).tree (scope n ps ts)) ((filling.filling ins x).part.tree (scope n ps us)) (h.tree.gives n ps ts us a) };
       })
 
+  -- links, layer by layer
   on_link : (x : Link-F After Formula Link) → BelowLink PA PF PL x → PL (roll-Link x)
   on_link x h =
       joint_link x (record {
@@ -105,6 +105,7 @@ module _ (table : List Def) (means : Meanings) (ins : Inserts) (same : SameNames
           subst (λ (name : Option (ℕ × List ℕ)). Gives (expansion.row (expansion.called means (scope n ps ts) name) r fs (scope n ps ts)) (filling.row (filling.called ins ps f.name) f gs (scope n ps us))) (sym h.name)
           (gives_row r f fs gs h k n ps ts us (expansion.called means (scope n ps ts) f.name) (filling.called ins ps f.name) (same_called means ins same n ps ts a.many f.name) a)
 
+  -- formulas, layer by layer
   on_formula : (x : Formula-F After Formula Link) → Below PA PF PL x → PF (roll-Formula x)
   on_formula (Formula-F.Number at k) h = joint (Formula-F.Number at k) (alone_reads _ _ (none_puts (λ n. formula.Number (deeper_place n at) k)))
   on_formula (Formula-F.Text at x) h = joint (Formula-F.Text at x) (alone_reads _ _ (none_puts (λ n. formula.Text (deeper_place n at) x)))
@@ -138,12 +139,14 @@ module _ (table : List Def) (means : Meanings) (ins : Inserts) (same : SameNames
   same_of ps (body.Pred p) = record { params = refl; body = λ n ts us a. (reads p.formula).tree.gives n ps ts us a }
   same_of ps (body.Subst u) = record { params = refl; body = λ n ts us a t e. absurd (cc) }
 
+  -- of two definitions the first counts
   same_first : (m : Option Meaning) (i : Option Insert) → SameMeant m i → (o : Option Meaning) (p : Option Insert) → SameMeant o p → SameMeant (expansion.first_of m o) (filling.first_of i p)
   same_first None None h o p k = k
   same_first None (Some i) h o p k = absurd h
   same_first (Some m) None h o p k = absurd h
   same_first (Some m) (Some i) h o p k = h
 
+  -- a definition of a name, or none
   same_if : (m : Meaning) (i : Insert) → SameMeaning m i → (b : Bool) → SameMeant (cond b (Some m) None) (cond b (Some i) None)
   same_if m i h true = h
   same_if m i h false = tt
@@ -155,6 +158,7 @@ module _ (table : List Def) (means : Meanings) (ins : Inserts) (same : SameNames
         (same_if (meaning_of table means d.params d.body) (insert_of ins d.params d.body) (same_of d.params d.body) (bytes_eq x d.name));
   }
 
+-- the definitions one after the other
 same_all : (table : List Def) (means : Meanings) (ins : Inserts) → SameNames means ins → (ds : List Def) → SameNames (fold (expansion.with_definition table) means ds) (fold filling.with_definition ins ds)
 same_all table means ins h [] = h
 same_all table means ins h (d ∷ ds) = same_all table (expansion.with_definition table means d) (filling.with_definition ins d) (same_with table means ins h d) ds

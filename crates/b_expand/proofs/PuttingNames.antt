@@ -1,7 +1,7 @@
 -- Parameters and the trees that stand for them, and trees that are there only if their parts are.
-use Rattle.std.proofs.Common.{◌≡◌, ℕ, suc, ◌+◌, ◌<◌, Bool, true, false, ◌||◌, not, cond, List, [], ◌∷◌, length, Option, Some, None, refl, sym, ap, ◌∙◌, arith}
+use Rattle.std.proofs.Common.{◌≡◌, ℕ, suc, ◌+◌, Bool, true, false, ◌||◌, not, cond, List, [], ◌∷◌, length, Option, Some, None, refl, sym, ap, ◌∙◌, arith}
 use Rattle.std.specs.Prelude.{slice_get, option_map, option_and_then, is_some, bytes_eq, position, nat_lt}
-use Rattle.std.specs.List.{position_or_len, prefix_len}
+use Rattle.std.specs.List.{position_or_len}
 use Rattle.std.proofs.lemmas.Bool.Decides.{nat_tests}
 use Rattle.std.proofs.lemmas.Slice.Eq.{bytes_eq-Decides}
 use Rattle.b_ast.specs.declared.Formula.{Formula}
@@ -13,13 +13,16 @@ use Rattle.b_expand.specs.Expansion.{both, all_three}
 abbrev pub Gives : {X : Type 0} → Option X → X → Type 0
 Gives {X} o w = (t : X) → o ≡ Some t → w ≡ t
 
+-- what is there itself
 pub gives_some : {X : Type 0} (w : X) → Gives (Some w) w
 gives_some w t e = cc
 
+-- from one part
 pub gives_map : {X Y : Type 0} (f : X → Y) (o : Option X) (w : X) → Gives o w → Gives (option_map f o) (f w)
 gives_map f None w h t e = absurd (cc)
 gives_map f (Some v) w h t e = let k : f v ≡ t = cc in ap f (h v refl) ∙ k
 
+-- from two
 pub gives_both : {X Y Z : Type 0} (f : X → Y → Z) (o : Option X) (p : Option Y) (v : X) (w : Y) → Gives o v → Gives p w → Gives (both f o p) (f v w)
 gives_both f None p v w h k t e = absurd (cc)
 gives_both f (Some x) None v w h k t e = absurd (cc)
@@ -27,6 +30,7 @@ gives_both f (Some x) (Some y) v w h k t e =
     let l : f x y ≡ t = cc in
     ap (λ v. f v w) (h x refl) ∙ ap (f x) (k y refl) ∙ l
 
+-- from three
 pub gives_three : {W X Y Z : Type 0} (f : W → X → Y → Z) (o : Option W) (p : Option X) (q : Option Y) (u : W) (v : X) (w : Y) → Gives o u → Gives p v → Gives q w → Gives (all_three f o p q) (f u v w)
 gives_three f None p q u v w h k l t e = absurd (cc)
 gives_three f (Some x) None q u v w h k l t e = absurd (cc)
@@ -43,12 +47,15 @@ looked [] ts x = None
 looked (p ∷ ps) [] x = None
 looked (p ∷ ps) (t ∷ ts) x = cond (bytes_eq x p) (Some t) (looked ps ts x)
 
+-- zero is below a successor
 less_zero : (n : ℕ) → nat_lt 0 (suc n) ≡ true
 less_zero n = grind (arith, nat_tests)
 
+-- successors are in order as the numbers are
 less_next : (m n : ℕ) → nat_lt (suc m) (suc n) ≡ nat_lt m n
 less_next m n = grind (arith, nat_tests)
 
+-- the successor of a number that may be missing
 next_of : (k : ℕ) (b : Bool) → cond b (Some (suc k)) None ≡ option_map suc (cond b (Some k) None)
 next_of k true = refl
 next_of k false = refl
@@ -65,10 +72,12 @@ position_next x p ps false e =
     ∙ ap (λ (b : Bool). cond b (Some (suc (position_or_len (bytes_eq x) ps))) None) (less_next (position_or_len (bytes_eq x) ps) (length ps))
     ∙ next_of (position_or_len (bytes_eq x) ps) (nat_lt (position_or_len (bytes_eq x) ps) (length ps))
 
+-- no tree stands in an empty list
 none_of_none : (o : Option ℕ) → option_and_then (slice_get {X = Formula} []) o ≡ None
 none_of_none None = refl
 none_of_none (Some k) = refl
 
+-- a tree after the first
 one_further : (t : Formula) (ts : List Formula) (o : Option ℕ) → option_and_then (slice_get (t ∷ ts)) (option_map suc o) ≡ option_and_then (slice_get ts) o
 one_further t ts None = refl
 one_further t ts (Some k) = refl
@@ -87,6 +96,7 @@ looks (p ∷ ps) (t ∷ ts) x = go (bytes_eq x p) refl (looks ps ts x)
         ∙ one_further t ts (position (bytes_eq x) ps)
         ∙ h ∙ sym (ap (λ (b : Bool). cond b (Some t) (looked ps ts x)) e)
 
+-- the successor of a number is there if the number is
 is_there : (o : Option ℕ) → is_some (option_map suc o) ≡ is_some o
 is_there None = refl
 is_there (Some k) = refl
@@ -115,17 +125,21 @@ pub record Agree (ps : List (List ℕ)) (ts us : List Formula) (needed : List �
 pub weaker : (ps : List (List ℕ)) (ts us : List Formula) (needed fewer : List ℕ → Bool) → ((x : List ℕ) → fewer x ≡ true → needed x ≡ true) → Agree ps ts us needed → Agree ps ts us fewer
 weaker ps ts us needed fewer h a = record { many = a.many; as_many = a.as_many; same = λ x e. a.same x (h x e) }
 
+-- either by its left side
 or_left : (b c : Bool) → b ≡ true → (b || c) ≡ true
 or_left true c e = refl
 or_left false c e = absurd (cc)
 
+-- either by its right side
 or_right : (b c : Bool) → c ≡ true → (b || c) ≡ true
 or_right true c e = refl
 or_right false c e = e
 
+-- where the left side's names are needed
 pub left_of : (ps : List (List ℕ)) (ts us : List Formula) (f g : List ℕ → Bool) → Agree ps ts us (λ x. f x || g x) → Agree ps ts us f
 left_of ps ts us f g a = weaker ps ts us (λ x. f x || g x) f (λ x e. or_left (f x) (g x) e) a
 
+-- where the right side's names are needed
 pub right_of : (ps : List (List ℕ)) (ts us : List Formula) (f g : List ℕ → Bool) → Agree ps ts us (λ x. f x || g x) → Agree ps ts us g
 right_of ps ts us f g a = weaker ps ts us (λ x. f x || g x) g (λ x e. or_right (f x) (g x) e) a
 
