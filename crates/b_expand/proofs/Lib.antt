@@ -2,3 +2,8 @@
 pub mod Naming
 pub mod Lists
 pub mod Work
+mod Layers
+pub mod PuttingNames
+pub mod PuttingUses
+pub mod PuttingLayers
+pub mod Putting

@@ -1,5 +1,6 @@
 -- The expansion of definitions.
 pub mod Places
 pub mod Expansion
+pub mod Filling
 pub mod Answers
 pub mod Standing
