@@ -2,7 +2,7 @@
 pub mod Naming
 pub mod Lists
 pub mod Work
-mod Layers
+pub mod Layers
 pub mod PuttingNames
 pub mod PuttingUses
 pub mod PuttingLayers

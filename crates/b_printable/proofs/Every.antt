@@ -6,7 +6,7 @@ use Rattle.b_ast.specs.declared.Link.{Link, roll-Link, out-Link, out-roll-Link, 
 use Rattle.b_ast.specs.declared.After.{After, roll-After, out-After, map-After, out-roll-After, every-After, every_held-After, every_made-After}
 use Rattle.b_ast.specs.declared.After.TheOpen.{Formula-F, Link-F, After-F}
 use Rattle.b_reading_back.specs.Printable.{Anything}
-use Rattle.b_reading_back.proofs.Layers.{Below, BelowLink, BelowAfter, unlift, unlift_link, unlift_after}
+use Rattle.b_expand.proofs.Layers.{Below, BelowLink, BelowAfter, unlift, unlift_link, unlift_after}
 
 -- a list whose elements have it is one of elements that have it
 lifted : {X : Type 0} (P : X → Type 0) (xs : List X) → AllByRecursion P xs → (ys : List ((v : X) × P v)) × (map (λ (e : (v : X) × P v). e.0) ys ≡ xs)

@@ -19,7 +19,7 @@ use Rattle.b_ast.specs.Sorts.{sort_of, fits}
 use Rattle.b_expand.specs.Places.{brackets, deeper_place, deeper_bound}
 use Rattle.b_expand.specs.Expansion.{Scope, tree_of, Meaning, Meanings, may_bind, bound, of_sort, sorted, used_with, used, named, row_of, expanded_operator, both, all_three, all_of, Expands, Reading, Form, Side, plain, trees, forms, links, chain, called, first_arguments, later_forms, plain_row, applied, row, after_step, link_step, formula_step, reading, form_of, side_of, meaning_of, first_of, with_definition, meanings, alone}
 use Rattle.b_reading_back.specs.Printable.{IsName, AreNames, MayChain, operators, LayerIsPrintable, IsPrintable, IsPrintableLink, IsPrintableAfter}
-use Rattle.b_reading_back.proofs.Layers.{Below, BelowLink, BelowAfter, by_layers}
+use Rattle.b_expand.proofs.Layers.{Below, BelowLink, BelowAfter, by_layers}
 use Rattle.b_printable.specs.Written.{MayStand, LayerIsWritten, IsWritten, IsWrittenLink, IsWrittenAfter, BodyIsWritten, AreWritten}
 use Rattle.b_printable.specs.Laws.{IsExpandedPrintable}
 use Rattle.b_printable.proofs.Every.{here, held, held_link, held_after, made, made_link, made_after}

@@ -11,7 +11,7 @@ use Rattle.b_ast.specs.declared.After.TheVariants as after
 use Rattle.b_ast.specs.declared.After.TheOpen.{Formula-F, Link-F, After-F}
 use Rattle.b_expand.specs.Places.{deeper_place, deeper_bound, after_deeper, formula_deeper, link_deeper, deeper, deeper_link, deeper_after}
 use Rattle.b_reading_back.specs.Printable.{IsName, AreNames, MayChain, operators, LayerIsPrintable, IsPrintable, IsPrintableLink, IsPrintableAfter}
-use Rattle.b_reading_back.proofs.Layers.{Below, BelowLink, BelowAfter, by_layers}
+use Rattle.b_expand.proofs.Layers.{Below, BelowLink, BelowAfter, by_layers}
 use Rattle.b_printable.proofs.Parts.{many_mapped, each_image}
 use Rattle.b_printable.proofs.Every.{here, held, held_link, held_after, made, made_link, made_after}
 
