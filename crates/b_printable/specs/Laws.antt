@@ -1,5 +1,5 @@
 -- Every formula that the parser gives has a canonical text that is read back.
-use Rattle.std.specs.Prelude.{◌≡◌, ◌++◌, Bool, false, List, [], Option, Some, Result, Ok, Err}
+use Rattle.std.specs.Prelude.{◌≡◌, ℕ, ◌++◌, Bool, false, List, [], Some, Result, Ok, Err}
 use Rattle.b_ast.specs.declared.Formula.{Formula}
 use Rattle.b_ast.specs.declared.FormulaText.{FormulaText}
 use Rattle.b_ast.specs.declared.FormulaText.TheVariants as kind

@@ -15,7 +15,7 @@ use Rattle.b_ast.specs.declared.After.TheVariants as after
 use Rattle.b_ast.specs.declared.After.TheOpen.{Formula-F, Link-F, After-F}
 use Rattle.b_expand.specs.Places.{deepest, depth_of_link, depth_of_after, greatest, names_depth, after_depth, formula_depth, link_depth, deeper_place, deeper_bound}
 use Rattle.b_expand.specs.Expansion.{Meaning, Meanings, Reading, Form, Side, meanings, reading, form_of, side_of, after_step, link_step, formula_step, alone, expansion, both, all_three, all_of, bound, may_bind, called, row, is_comma, expanded_operator, links, forms}
-use Rattle.b_reading_back.proofs.Layers as layers
+use Rattle.b_expand.proofs.Layers as layers
 use Rattle.b_reading_back.proofs.Shallow.{IsShallow}
 use Rattle.b_reading_back.proofs.Apart.{after_free, link_free, all_free, formula_free, is_free, is_free_link, is_free_after}
 

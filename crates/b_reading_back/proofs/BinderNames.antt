@@ -19,7 +19,7 @@ use Rattle.b_reading_back.specs.Laws.{symbols}
 use Rattle.b_reading_back.specs.Places.{nowhere, bare_bounds}
 use Rattle.b_reading_back.specs.Symbols.{Row, Written, Joined, ended, round, guarded, commas, comma_each, names_to, dot, bracketed_names, binder_names, collector_names, links, chain_binds, afters, symbols_at, after_symbols, link_symbols, after_step, formula_step, link_step}
 use Rattle.b_reading_back.proofs.Ways.{lexeme}
-use Rattle.b_reading_back.proofs.Layers.{Below, BelowAfter, by_layers}
+use Rattle.b_expand.proofs.Layers.{Below, BelowAfter, by_layers}
 
 pub record NamesRead (read : List Lexeme → Names) (ns : List Bound) (ss : List Symbol) (ts : List Lexeme) : Type 0 where
   pub bounds : List Bound

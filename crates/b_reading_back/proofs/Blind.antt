@@ -17,7 +17,7 @@ use Rattle.b_print.specs.Spellings.{quantifier_sign, collector_word}
 use Rattle.b_print.specs.Texts as texts
 use Rattle.b_reading_back.specs.Places as places
 use Rattle.b_reading_back.specs.Places.{nowhere, bare, bare_link, bare_after, bare_bounds, IsSameApartFromPlaces}
-use Rattle.b_reading_back.proofs.Layers.{Below, BelowAfter, BelowLink, by_layers}
+use Rattle.b_expand.proofs.Layers.{Below, BelowAfter, BelowLink, by_layers}
 
 module _ (A F L : Type 0) where
   -- a layer with one place for all

@@ -10,7 +10,7 @@ use Rattle.b_ast.specs.declared.After.TheOpen.{Formula-F, Link-F, After-F}
 use Rattle.b_expand.specs.Expansion.{is_comma}
 use Rattle.b_grammar.specs.Grammar.{priority}
 use Rattle.b_reading_back.specs.Printable.{Anything, LayerIsPrintable, MayChain, operators, IsPrintable, IsPrintableLink, IsPrintableAfter}
-use Rattle.b_reading_back.proofs.Layers.{Below, BelowLink, BelowAfter, by_layers, unlift, unlift_link, unlift_after}
+use Rattle.b_expand.proofs.Layers.{Below, BelowLink, BelowAfter, by_layers, unlift, unlift_link, unlift_after}
 use Rattle.b_reading_back.proofs.Apart.{after_free, link_free, all_free, formula_free, is_free, is_free_link, is_free_after}
 
 -- ---- operators

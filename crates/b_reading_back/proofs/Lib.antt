@@ -1,4 +1,3 @@
-pub mod Layers
 pub mod Ways
 pub mod Climbing
 pub mod Bare

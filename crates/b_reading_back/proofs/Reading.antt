@@ -21,7 +21,7 @@ use Rattle.b_reading_back.specs.Places.{nowhere, bare, bare_link, bare_after, ba
 use Rattle.b_reading_back.specs.Printable.{Anything, LayerIsPrintable, MayChain, operators, IsPrintable, IsPrintableLink, IsPrintableAfter}
 use Rattle.b_reading_back.specs.Symbols as written
 use Rattle.b_reading_back.specs.Symbols.{Row, Written, Joined, round, guarded, links, chain_binds, afters, symbols_at, after_symbols, link_symbols}
-use Rattle.b_reading_back.proofs.Layers.{Below, BelowAfter, BelowLink, by_layers, unlift, unlift_link, unlift_after}
+use Rattle.b_expand.proofs.Layers.{Below, BelowAfter, BelowLink, by_layers, unlift, unlift_link, unlift_after}
 use Rattle.b_reading_back.proofs.Ways.{IsRead, within}
 use Rattle.b_reading_back.proofs.Climbing.{row_alone, operand_alone, cut_alone, above, is_level, climb}
 use Rattle.b_reading_back.proofs.Bare.{joined_link}

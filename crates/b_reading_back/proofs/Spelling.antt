@@ -38,7 +38,7 @@ use Rattle.b_print.specs.Texts.{text_at, link_text, after_text}
 use Rattle.b_reading_back.specs.Printable.{Anything, LayerIsPrintable, MayChain, operators, IsName, AreNames, IsPrintable, IsPrintableLink, IsPrintableAfter}
 use Rattle.b_reading_back.specs.Symbols as written
 use Rattle.b_reading_back.specs.Symbols.{Row, Joined, symbols_at, after_symbols, link_symbols}
-use Rattle.b_reading_back.proofs.Layers.{Below, BelowAfter, BelowLink, by_layers, unlift, unlift_link, unlift_after}
+use Rattle.b_expand.proofs.Layers.{Below, BelowAfter, BelowLink, by_layers, unlift, unlift_link, unlift_after}
 use Rattle.b_reading_back.proofs.Lexing.{Lexes, IsTaken, Any, Apart, ends_word, nothing, joined, freely, token}
 use Rattle.b_reading_back.proofs.Tokens.{spelling_of_mark, operator_reads, function_reads, mark_reads, quantifier_reads, lambda_reads, collector_reads, dot_reads, bar_reads, if_reads, then_reads, else_reads, end_reads, name_reads, constant_reads, number_reads, digit_is, letter_range}
 use Rattle.b_reading_back.proofs.Quotes.{string_reads}
