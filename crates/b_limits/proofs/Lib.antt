@@ -1,0 +1,5 @@
+-- Lemmas of measuring.
+pub mod Keys
+pub mod Lists
+pub mod Naming
+pub mod Work

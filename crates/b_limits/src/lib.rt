@@ -2,5 +2,10 @@
 #![tactic(auto)]
 
 mod facts;
+mod measuring;
+mod memory;
+mod parts;
+mod sorts;
+mod sums;
 
 pub use facts::{Facts, FormFacts, LinkFacts};
