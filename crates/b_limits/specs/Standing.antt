@@ -1,7 +1,12 @@
 -- What the record of a text says: the table, how many of its definitions the text may use, and its scope.
-use Rattle.std.specs.Prelude.{ℕ, max, ◌+◌, List, map, take, Option, Some, slice_get, option_map, None, option_and_then, ◌&&◌, ◌==◌, length, if◌then◌else◌}
+use Rattle.std.specs.Prelude.{ℕ, nat_lt, Result, Ok, Err, max, ◌+◌, List, map, take, Option, Some, slice_get, option_map, None, option_and_then, ◌&&◌, ◌==◌, length, if◌then◌else◌}
 use Rattle.b_ast.specs.Sorts as sorts
+use Rattle.b_ast.specs.declared.Sort.{Sort}
 use Rattle.b_ast.specs.declared.Sort.TheVariants as sort
+use Rattle.b_ast.specs.declared.FormulaText.{FormulaText}
+use Rattle.b_expand.specs.Answers.{text_of}
+use Rattle.b_expand.specs.declared.faults.Unfit.{Unfit}
+use Rattle.b_expand.specs.declared.faults.Unfit.TheVariants.{NotASentence, TooDeep, TooWide}
 use Rattle.b_ast.specs.declared.Place.{Place}
 use Rattle.b_ast.specs.declared.Bound.{Bound}
 use Rattle.b_expand.specs.Places.{names_depth}
@@ -91,8 +96,32 @@ used_in t i depth fs = option_and_then (λ m. spec.used_with depth m (scope_of t
 
 -- a use of a definition that may use those before a place
 abbrev pub definition_in : Measuring → Def → ℕ → ℕ → List Facts → Option Facts
-definition_in t d i depth fs = spec.used_with depth (spec.meaning_of t.table.now (spec.meanings t.table.now (take i t.table.now)) d.params d.body) (scope_of t) fs
+definition_in t d i round fs = used_at round (spec.meaning_of t.table.now (spec.meanings t.table.now (take i t.table.now)) d.params d.body) fs
 
 -- the body of a definition, if it is of the declared sort
 abbrev pub body_in : Measuring → DefBody → Option Facts
 body_in t b = let m = spec.meaning_of t.table.now (means_in t) t.params.now b in spec.of_sort m.sort (m.body (scope_of t))
+
+-- ---- verdicts
+
+-- the sort of a tree within the limits
+abbrev pub limited : Facts → Sort → Result Sort Unfit
+limited f s = if nat_lt 100 f.depth then Err TooDeep else if nat_lt 1000000 f.nodes then Err TooWide else Ok s
+
+abbrev pub sorted_limited : Facts → Option Sort → Result Sort Unfit
+sorted_limited f None = Err NotASentence
+sorted_limited f (Some s) = limited f s
+
+-- the sort of the text that a tree is, or why it is none
+abbrev pub verdict_of : Option Facts → Result Sort Unfit
+verdict_of None = Err NotASentence
+verdict_of (Some f) = sorted_limited f f.sort
+
+-- the text that a tree of a sort is
+abbrev pub text_by : Sort → Option Formula → Result FormulaText Unfit
+text_by s None = Err NotASentence
+text_by s (Some e) = Ok (text_of s e)
+
+abbrev pub judged_by : Result Sort Unfit → Option Formula → Result FormulaText Unfit
+judged_by (Err why) o = Err why
+judged_by (Ok s) o = text_by s o

@@ -5,9 +5,11 @@ ghost use Rattle.b_expand.specs.Expansion.{all_of};
 ghost use Rattle.b_expand.specs.Places as places;
 ghost use Rattle.b_expand.specs.Places.{node_total, nodes_of_link, nodes_of_after};
 ghost use Rattle.b_limits.specs.Measured as spec;
+ghost use Rattle.b_limits.specs.Memory.{IsRight, found_in};
 ghost use Rattle.b_limits.specs.Standing.{scope_of, means_in, meaning_at, reading_in, form_in, side_in, facts_in, all_in, links_in, forms_in, called_in, row_in, plain_row_in, arguments_in, operands_in, used_in, definition_in, body_in};
 
 use crate::facts::{Facts, FormFacts, LinkFacts};
+use crate::memory::{Memory, key_of, recalled, remember};
 use crate::parts;
 use crate::sums::{brackets, deeper_place};
 use b_ast::machine::{Def, DefBody};
@@ -220,62 +222,65 @@ fn application<'a>(forms: &'a [After], text: &Measuring<'_>) -> Option<(&'a Form
 pub fn walk(
     tree: &Formula,
     alloc: Global,
+    memory: &mut Memory,
     text: &Measuring<'_>,
 ) -> Result<Option<Facts>, AllocError>
-    ensures { IfOk result (λ o. o ≡ facts_in text.now tree.now) }
+    requires right { IsRight text.now.table.now memory.old }
+    ensures value { IfOk result (λ o. o ≡ facts_in text.now tree.now) }
+    ensures right { IsRight text.now.table.now memory.new }
 {
     let round = text.round;
     match tree {
         Formula::Number(at, _) => Ok(Some(parts::leaf(deeper_place(round, *at)))),
         Formula::Text(at, _) => Ok(Some(parts::leaf(deeper_place(round, *at)))),
-        Formula::Name(at, x) => walk_name(*at, x.as_slice(), alloc, text),
+        Formula::Name(at, x) => walk_name(*at, x.as_slice(), alloc, memory, text),
         Formula::Old(at, _) => Ok(Some(parts::leaf(deeper_place(round, *at)))),
         Formula::Constant(at, _) => Ok(Some(parts::leaf(deeper_place(round, *at)))),
         Formula::Negative(at, e) => {
-            let e = walk(e.get(), alloc, text)?;
+            let e = walk(e.get(), alloc, memory, text)?;
             Ok(parts::negative(deeper_place(round, *at), e))
         }
         Formula::Chain(e, links) => {
-            let e = walk(e.get(), alloc, text)?;
-            let links = walk_links(links.as_slice(), alloc, text)?;
+            let e = walk(e.get(), alloc, memory, text)?;
+            let links = walk_links(links.as_slice(), alloc, memory, text)?;
             Ok(parts::chain(e, links))
         }
-        Formula::Row(e, forms) => walk_row(e.get(), forms.as_slice(), alloc, text),
+        Formula::Row(e, forms) => walk_row(e.get(), forms.as_slice(), alloc, memory, text),
         Formula::Call(at, f, es) => {
-            let es = walk_all(es.as_slice(), alloc, text)?;
+            let es = walk_all(es.as_slice(), alloc, memory, text)?;
             Ok(parts::call(deeper_place(round, *at), *f, es))
         }
         Formula::Set(at, es) => {
-            let es = walk_all(es.as_slice(), alloc, text)?;
+            let es = walk_all(es.as_slice(), alloc, memory, text)?;
             Ok(parts::set(deeper_place(round, *at), es))
         }
         Formula::Sequence(at, es) => {
-            let es = walk_all(es.as_slice(), alloc, text)?;
+            let es = walk_all(es.as_slice(), alloc, memory, text)?;
             Ok(parts::sequence(deeper_place(round, *at), es))
         }
         Formula::Comprehension(at, xs, p) => {
             let xs = xs.as_slice();
             let binds = may_bind_all(text, xs);
-            let p = walk(p.get(), alloc, text)?;
+            let p = walk(p.get(), alloc, memory, text)?;
             Ok(parts::comprehension(deeper_place(round, *at), xs, binds, round, p))
         }
         Formula::Quantified(at, q, xs, p) => {
             let xs = xs.as_slice();
             let binds = may_bind_all(text, xs);
-            let p = walk(p.get(), alloc, text)?;
+            let p = walk(p.get(), alloc, memory, text)?;
             Ok(parts::quantified(deeper_place(round, *at), *q, xs, binds, round, p))
         }
         Formula::Collected(at, c, xs, p, e) => {
             let xs = xs.as_slice();
             let binds = may_bind_all(text, xs);
-            let p = walk(p.get(), alloc, text)?;
-            let e = walk(e.get(), alloc, text)?;
+            let p = walk(p.get(), alloc, memory, text)?;
+            let e = walk(e.get(), alloc, memory, text)?;
             Ok(parts::collected(deeper_place(round, *at), *c, xs, binds, round, p, e))
         }
         Formula::If(at, p, e, f) => {
-            let p = walk(p.get(), alloc, text)?;
-            let e = walk(e.get(), alloc, text)?;
-            let f = walk(f.get(), alloc, text)?;
+            let p = walk(p.get(), alloc, memory, text)?;
+            let e = walk(e.get(), alloc, memory, text)?;
+            let f = walk(f.get(), alloc, memory, text)?;
             Ok(parts::conditional(deeper_place(round, *at), p, e, f))
         }
     }
@@ -286,13 +291,16 @@ pub fn walk(
 fn walk_all(
     trees: &[Formula],
     alloc: Global,
+    memory: &mut Memory,
     text: &Measuring<'_>,
 ) -> Result<Option<Items<Facts>>, AllocError>
-    ensures { IfOk result (λ o. o ≡ all_in text.now trees.now) }
+    requires right { IsRight text.now.table.now memory.old }
+    ensures value { IfOk result (λ o. o ≡ all_in text.now trees.now) }
+    ensures right { IsRight text.now.table.now memory.new }
 {
     let mut found = Some(Items::new(alloc));
     for tree in trees {
-        let tree = walk(tree, alloc, text)?;
+        let tree = walk(tree, alloc, memory, text)?;
         found = parts::pushed(found, tree)?;
     }
     Ok(found)
@@ -303,13 +311,16 @@ fn walk_all(
 fn walk_links(
     links: &[Link],
     alloc: Global,
+    memory: &mut Memory,
     text: &Measuring<'_>,
 ) -> Result<Option<Items<LinkFacts>>, AllocError>
-    ensures { IfOk result (λ o. o ≡ links_in text.now links.now) }
+    requires right { IsRight text.now.table.now memory.old }
+    ensures value { IfOk result (λ o. o ≡ links_in text.now links.now) }
+    ensures right { IsRight text.now.table.now memory.new }
 {
     let mut found = Some(Items::new(alloc));
     for link in links {
-        let link = walk_link(link, alloc, text)?;
+        let link = walk_link(link, alloc, memory, text)?;
         found = parts::pushed(found, link)?;
     }
     Ok(found)
@@ -319,11 +330,14 @@ fn walk_links(
 fn walk_link(
     link: &Link,
     alloc: Global,
+    memory: &mut Memory,
     text: &Measuring<'_>,
 ) -> Result<Option<LinkFacts>, AllocError>
-    ensures { IfOk result (λ o. o ≡ (side_in text.now link.now).link (scope_of text.now)) }
+    requires right { IsRight text.now.table.now memory.old }
+    ensures value { IfOk result (λ o. o ≡ (side_in text.now link.now).link (scope_of text.now)) }
+    ensures right { IsRight text.now.table.now memory.new }
 {
-    let operand = walk(&link.operand, alloc, text)?;
+    let operand = walk(&link.operand, alloc, memory, text)?;
     let at = deeper_place(text.round, link.at);
     Ok(parts::link(link.operator, at, operand))
 }
@@ -332,11 +346,14 @@ fn walk_link(
 fn walk_operand(
     link: &Link,
     alloc: Global,
+    memory: &mut Memory,
     text: &Measuring<'_>,
 ) -> Result<Option<Facts>, AllocError>
-    ensures { IfOk result (λ o. o ≡ spec.sorted ((side_in text.now link.now).operand (scope_of text.now))) }
+    requires right { IsRight text.now.table.now memory.old }
+    ensures value { IfOk result (λ o. o ≡ spec.sorted ((side_in text.now link.now).operand (scope_of text.now))) }
+    ensures right { IsRight text.now.table.now memory.new }
 {
-    let operand = walk(&link.operand, alloc, text)?;
+    let operand = walk(&link.operand, alloc, memory, text)?;
     Ok(parts::sorted(operand))
 }
 
@@ -345,13 +362,16 @@ fn walk_operand(
 fn walk_forms(
     forms: &[After],
     alloc: Global,
+    memory: &mut Memory,
     text: &Measuring<'_>,
 ) -> Result<Option<Items<FormFacts>>, AllocError>
-    ensures { IfOk result (λ o. o ≡ forms_in text.now forms.now) }
+    requires right { IsRight text.now.table.now memory.old }
+    ensures value { IfOk result (λ o. o ≡ forms_in text.now forms.now) }
+    ensures right { IsRight text.now.table.now memory.new }
 {
     let mut found = Some(Items::new(alloc));
     for form in forms {
-        let form = walk_form(form, alloc, text)?;
+        let form = walk_form(form, alloc, memory, text)?;
         found = parts::pushed(found, form)?;
     }
     Ok(found)
@@ -361,18 +381,21 @@ fn walk_forms(
 fn walk_form(
     form: &After,
     alloc: Global,
+    memory: &mut Memory,
     text: &Measuring<'_>,
 ) -> Result<Option<FormFacts>, AllocError>
-    ensures { IfOk result (λ o. o ≡ (form_in text.now form.now).form (scope_of text.now)) }
+    requires right { IsRight text.now.table.now memory.old }
+    ensures value { IfOk result (λ o. o ≡ (form_in text.now form.now).form (scope_of text.now)) }
+    ensures right { IsRight text.now.table.now memory.new }
 {
     match form {
         After::Converse(at) => Ok(Some(parts::converse(deeper_place(text.round, *at)))),
         After::Apply(at, e) => {
-            let e = walk(e, alloc, text)?;
+            let e = walk(e, alloc, memory, text)?;
             Ok(parts::apply(deeper_place(text.round, *at), e))
         }
         After::Image(at, e) => {
-            let e = walk(e, alloc, text)?;
+            let e = walk(e, alloc, memory, text)?;
             Ok(parts::image(deeper_place(text.round, *at), e))
         }
     }
@@ -383,14 +406,17 @@ fn walk_name(
     at: Place,
     name: &[u8],
     alloc: Global,
+    memory: &mut Memory,
     text: &Measuring<'_>,
 ) -> Result<Option<Facts>, AllocError>
-    ensures { IfOk result (λ o. o ≡ spec.named (means_in text.now name.now) (spec.facts_at (scope_of text.now) name.now) (scope_of text.now) at name.now) }
+    requires right { IsRight text.now.table.now memory.old }
+    ensures value { IfOk result (λ o. o ≡ spec.named (means_in text.now name.now) (spec.facts_at (scope_of text.now) name.now) (scope_of text.now) at name.now) }
+    ensures right { IsRight text.now.table.now memory.new }
 {
     match facts_of(text, name) {
         Some(facts) => Ok(Some(parts::deeper(brackets(1, at.depth), facts))),
         None => match meaning_of(text, name) {
-            Some(i) => walk_use(i, at.depth, &[], alloc, text),
+            Some(i) => walk_use(i, at.depth, &[], alloc, memory, text),
             None => Ok(Some(parts::leaf(deeper_place(text.round, at)))),
         },
     }
@@ -401,13 +427,16 @@ fn walk_row(
     head: &Formula,
     forms: &[After],
     alloc: Global,
+    memory: &mut Memory,
     text: &Measuring<'_>,
 ) -> Result<Option<Facts>, AllocError>
-    ensures { IfOk result (λ o. o ≡ row_in text.now head.now forms.now) }
+    requires right { IsRight text.now.table.now memory.old }
+    ensures value { IfOk result (λ o. o ≡ row_in text.now head.now forms.now) }
+    ensures right { IsRight text.now.table.now memory.new }
 {
     match called(head, text) {
-        Some((depth, i)) => walk_called(head, forms, depth, i, alloc, text),
-        None => walk_plain_row(head, forms, alloc, text),
+        Some((depth, i)) => walk_called(head, forms, depth, i, alloc, memory, text),
+        None => walk_plain_row(head, forms, alloc, memory, text),
     }
 }
 
@@ -419,20 +448,23 @@ fn walk_called(
     depth: u64,
     i: usize,
     alloc: Global,
+    memory: &mut Memory,
     text: &Measuring<'_>,
 ) -> Result<Option<Facts>, AllocError>
     requires within { i < text.now.known }
     requires known { IsSome (meaning_at text.now i) }
-    ensures { IfOk result (λ o. o ≡ spec.row (option_map (λ m. (depth, m)) (meaning_at text.now i)) (reading_in text.now head.now) (map (form_in text.now) forms.now) (scope_of text.now)) }
+    requires right { IsRight text.now.table.now memory.old }
+    ensures value { IfOk result (λ o. o ≡ spec.row (option_map (λ m. (depth, m)) (meaning_at text.now i)) (reading_in text.now head.now) (map (form_in text.now) forms.now) (scope_of text.now)) }
+    ensures right { IsRight text.now.table.now memory.new }
 {
     match application(forms, text) {
         Some((e, rest)) => {
-            let facts = walk_arguments(e, alloc, text)?;
-            let used = walk_used(i, depth, facts, alloc, text)?;
-            let rest = walk_forms(rest, alloc, text)?;
+            let facts = walk_arguments(e, alloc, memory, text)?;
+            let used = walk_used(i, depth, facts, alloc, memory, text)?;
+            let rest = walk_forms(rest, alloc, memory, text)?;
             Ok(parts::applied(used, rest))
         }
-        None => walk_plain_row(head, forms, alloc, text),
+        None => walk_plain_row(head, forms, alloc, memory, text),
     }
 }
 
@@ -441,12 +473,15 @@ fn walk_plain_row(
     head: &Formula,
     forms: &[After],
     alloc: Global,
+    memory: &mut Memory,
     text: &Measuring<'_>,
 ) -> Result<Option<Facts>, AllocError>
-    ensures { IfOk result (λ o. o ≡ plain_row_in text.now head.now forms.now) }
+    requires right { IsRight text.now.table.now memory.old }
+    ensures value { IfOk result (λ o. o ≡ plain_row_in text.now head.now forms.now) }
+    ensures right { IsRight text.now.table.now memory.new }
 {
-    let head = walk(head, alloc, text)?;
-    let forms = walk_forms(forms, alloc, text)?;
+    let head = walk(head, alloc, memory, text)?;
+    let forms = walk_forms(forms, alloc, memory, text)?;
     Ok(parts::row(head, forms))
 }
 
@@ -455,18 +490,21 @@ fn walk_plain_row(
 fn walk_arguments(
     tree: &Formula,
     alloc: Global,
+    memory: &mut Memory,
     text: &Measuring<'_>,
 ) -> Result<Option<Items<Facts>>, AllocError>
-    ensures { IfOk result (λ o. o ≡ arguments_in text.now tree.now) }
+    requires right { IsRight text.now.table.now memory.old }
+    ensures value { IfOk result (λ o. o ≡ arguments_in text.now tree.now) }
+    ensures right { IsRight text.now.table.now memory.new }
 {
     match several(tree, text) {
         Some((first, links)) => {
-            let first = walk(first, alloc, text)?;
-            let rest = walk_operands(links, alloc, text)?;
+            let first = walk(first, alloc, memory, text)?;
+            let rest = walk_operands(links, alloc, memory, text)?;
             parts::before(alloc, parts::sorted(first), rest)
         }
         None => {
-            let tree = walk(tree, alloc, text)?;
+            let tree = walk(tree, alloc, memory, text)?;
             parts::before(alloc, parts::sorted(tree), Some(Items::new(alloc)))
         }
     }
@@ -477,13 +515,16 @@ fn walk_arguments(
 fn walk_operands(
     links: &[Link],
     alloc: Global,
+    memory: &mut Memory,
     text: &Measuring<'_>,
 ) -> Result<Option<Items<Facts>>, AllocError>
-    ensures { IfOk result (λ o. o ≡ operands_in text.now links.now) }
+    requires right { IsRight text.now.table.now memory.old }
+    ensures value { IfOk result (λ o. o ≡ operands_in text.now links.now) }
+    ensures right { IsRight text.now.table.now memory.new }
 {
     let mut found = Some(Items::new(alloc));
     for link in links {
-        let link = walk_operand(link, alloc, text)?;
+        let link = walk_operand(link, alloc, memory, text)?;
         found = parts::pushed(found, link)?;
     }
     Ok(found)
@@ -495,31 +536,64 @@ fn walk_used(
     depth: u64,
     facts: Option<Items<Facts>>,
     alloc: Global,
+    memory: &mut Memory,
     text: &Measuring<'_>,
 ) -> Result<Option<Facts>, AllocError>
-    requires { i < text.now.known }
-    ensures { IfOk result (λ o. o ≡ option_and_then (used_in text.now i depth) facts) }
+    requires within { i < text.now.known }
+    requires right { IsRight text.now.table.now memory.old }
+    ensures value { IfOk result (λ o. o ≡ option_and_then (used_in text.now i depth) facts) }
+    ensures right { IsRight text.now.table.now memory.new }
 {
     match facts {
-        Some(facts) => walk_use(i, depth, facts.as_slice(), alloc, text),
+        Some(facts) => walk_use(i, depth, facts.as_slice(), alloc, memory, text),
         None => Ok(None),
     }
 }
 
+// A use is walked where it is not remembered.
 #[cycle(walk)]
-#[tactic(auto, using(crate::proofs::Work::work_at))]
 fn walk_use(
     i: usize,
     depth: u64,
     facts: &[Facts],
     alloc: Global,
+    memory: &mut Memory,
     text: &Measuring<'_>,
 ) -> Result<Option<Facts>, AllocError>
-    requires { i < text.now.known }
-    ensures { IfOk result (λ o. o ≡ used_in text.now i depth facts.now) }
+    requires within { i < text.now.known }
+    requires right { IsRight text.now.table.now memory.old }
+    ensures value { IfOk result (λ o. o ≡ used_in text.now i depth facts.now) }
+    ensures right { IsRight text.now.table.now memory.new }
+{
+    let round = round_of_use(text, depth);
+    let key = key_of(alloc, i, round, facts)?;
+    match recalled(memory, text.table, &key, i, round, facts) {
+        Some(found) => Ok(found),
+        None => {
+            let found = walk_new(i, round, facts, alloc, memory, text)?;
+            remember(memory, text.table, key, i, round, facts, found)?;
+            Ok(found)
+        }
+    }
+}
+
+#[cycle(walk)]
+#[tactic(auto, using(crate::proofs::Work::work_at))]
+fn walk_new(
+    i: usize,
+    round: u64,
+    facts: &[Facts],
+    alloc: Global,
+    memory: &mut Memory,
+    text: &Measuring<'_>,
+) -> Result<Option<Facts>, AllocError>
+    requires within { i < text.now.known }
+    requires right { IsRight text.now.table.now memory.old }
+    ensures value { IfOk result (λ o. o ≡ found_in text.now.table.now i round facts.now) }
+    ensures right { IsRight text.now.table.now memory.new }
 {
     match sqlite_items::at(text.table, i) {
-        Some(def) => walk_definition(def, i, depth, facts, alloc, text),
+        Some(def) => walk_definition(def, i, round, facts, alloc, memory, text),
         None => Ok(None),
     }
 }
@@ -529,12 +603,15 @@ fn walk_use(
 fn walk_definition(
     def: &Def,
     i: usize,
-    depth: u64,
+    round: u64,
     facts: &[Facts],
     alloc: Global,
+    memory: &mut Memory,
     text: &Measuring<'_>,
 ) -> Result<Option<Facts>, AllocError>
-    ensures { IfOk result (λ o. o ≡ definition_in text.now def.now i depth facts.now) }
+    requires right { IsRight text.now.table.now memory.old }
+    ensures value { IfOk result (λ o. o ≡ definition_in text.now def.now i round facts.now) }
+    ensures right { IsRight text.now.table.now memory.new }
 {
     if !takes(def, facts) {
         return Ok(None);
@@ -542,28 +619,31 @@ fn walk_definition(
     let inner = Measuring {
         table: text.table,
         known: i,
-        round: round_of_use(text, depth),
+        round,
         params: def.params.as_slice(),
         facts,
     };
-    walk_body(&def.body, alloc, &inner)
+    walk_body(&def.body, alloc, memory, &inner)
 }
 
 #[cycle(walk)]
 fn walk_body(
     body: &DefBody,
     alloc: Global,
+    memory: &mut Memory,
     text: &Measuring<'_>,
 ) -> Result<Option<Facts>, AllocError>
-    ensures { IfOk result (λ o. o ≡ body_in text.now body.now) }
+    requires right { IsRight text.now.table.now memory.old }
+    ensures value { IfOk result (λ o. o ≡ body_in text.now body.now) }
+    ensures right { IsRight text.now.table.now memory.new }
 {
     match body {
         DefBody::Expr(e) => {
-            let facts = walk(&e.formula, alloc, text)?;
+            let facts = walk(&e.formula, alloc, memory, text)?;
             Ok(parts::of_sort(facts, Sort::Expression))
         }
         DefBody::Pred(p) => {
-            let facts = walk(&p.formula, alloc, text)?;
+            let facts = walk(&p.formula, alloc, memory, text)?;
             Ok(parts::of_sort(facts, Sort::Predicate))
         }
         DefBody::Subst(_) => Ok(None),

@@ -2,22 +2,35 @@ use Rattle.std.proofs.Common.{◌≡◌, ◌+◌, ◌*◌, map, sum, drop, take}
 use Rattle.b_expand.specs.Places.{node_total, nodes_of_link, nodes_of_after}
 use Rattle.b_limits.specs.Measured as spec
 use Rattle.b_limits.specs.Standing.{scope_of, reading_in, form_in, side_in, all_in, links_in, forms_in, operands_in}
+use Rattle.b_limits.specs.Memory.{IsRight}
 use Rattle.b_limits.proofs.Lists.{joined}
 use Rattle.b_limits.proofs.Work.{work, body_nodes}
 use Rattle.b_limits.proofs.measuring.+walk.Given as goal
 
 -- what is built, and then the rest
 abbrev pub invariant-walk_all-loop-tree : goal.invariant-walk_all-loop-tree
-invariant-walk_all-loop-tree l = joined l.found (map (λ r. r.facts (scope_of l.text)) (map (reading_in l.text) (drop l.tree-index l.trees))) ≡ all_in l.text l.trees
+invariant-walk_all-loop-tree l = record {
+  built : joined l.found (map (λ r. r.facts (scope_of l.text)) (map (reading_in l.text) (drop l.tree-index l.trees))) ≡ all_in l.text l.trees;
+  right : IsRight l.text.table.now l.memory;
+}
 
 abbrev pub invariant-walk_links-loop-link : goal.invariant-walk_links-loop-link
-invariant-walk_links-loop-link l = joined l.found (map (λ k. k.link (scope_of l.text)) (map (side_in l.text) (drop l.link-index l.links))) ≡ links_in l.text l.links
+invariant-walk_links-loop-link l = record {
+  built : joined l.found (map (λ k. k.link (scope_of l.text)) (map (side_in l.text) (drop l.link-index l.links))) ≡ links_in l.text l.links;
+  right : IsRight l.text.table.now l.memory;
+}
 
 abbrev pub invariant-walk_forms-loop-form : goal.invariant-walk_forms-loop-form
-invariant-walk_forms-loop-form l = joined l.found (map (λ f. f.form (scope_of l.text)) (map (form_in l.text) (drop l.form-index l.forms))) ≡ forms_in l.text l.forms
+invariant-walk_forms-loop-form l = record {
+  built : joined l.found (map (λ f. f.form (scope_of l.text)) (map (form_in l.text) (drop l.form-index l.forms))) ≡ forms_in l.text l.forms;
+  right : IsRight l.text.table.now l.memory;
+}
 
 abbrev pub invariant-walk_operands-loop-link : goal.invariant-walk_operands-loop-link
-invariant-walk_operands-loop-link l = joined l.found (map spec.sorted (map (λ a. a (scope_of l.text)) (map (λ k. k.operand) (map (side_in l.text) (drop l.link-index l.links))))) ≡ operands_in l.text l.links
+invariant-walk_operands-loop-link l = record {
+  built : joined l.found (map spec.sorted (map (λ a. a (scope_of l.text)) (map (λ k. k.operand) (map (side_in l.text) (drop l.link-index l.links))))) ≡ operands_in l.text l.links;
+  right : IsRight l.text.table.now l.memory;
+}
 
 -- the nodes that are left
 abbrev pub decreases-walk : goal.decreases-walk
@@ -52,6 +65,9 @@ decreases-walk_used l = 8 * work (take l.text.now.known l.text.now.table.now) + 
 
 abbrev pub decreases-walk_use : goal.decreases-walk_use
 decreases-walk_use l = 8 * work (take l.text.now.known l.text.now.table.now) + 3
+
+abbrev pub decreases-walk_new : goal.decreases-walk_new
+decreases-walk_new l = 8 * work (take l.text.now.known l.text.now.table.now) + 2
 
 abbrev pub decreases-walk_body : goal.decreases-walk_body
 decreases-walk_body l = 8 * (work (take l.text.now.known l.text.now.table.now) + body_nodes l.body.now) + 2
