@@ -1,6 +1,6 @@
 -- The verdict on a tree from what is known of it.
-use Rattle.std.proofs.Common.{◌≡◌, ℕ, Bool, true, false, cond, List, Option, Some, None, refl, sym, ap, ◌∙◌, subst, take, length, [], ◌∷◌, arith}
-use Rattle.std.specs.Prelude.{min, nat_lt, if◌then◌else◌, Result, Ok, Err, option_map}
+use Rattle.std.proofs.Common.{◌≡◌, ℕ, Bool, true, false, cond, List, Option, Some, None, refl, sym, ap, ◌∙◌, subst, arith}
+use Rattle.std.specs.Prelude.{nat_lt, Result, Ok, Err, option_map}
 use Rattle.std.proofs.lemmas.Bool.Decides.{nat_tests}
 use Rattle.b_ast.specs.declared.Sort.{Sort}
 use Rattle.b_ast.specs.declared.machine.Def.{Def}
@@ -11,7 +11,7 @@ use Rattle.b_expand.specs.Places.{node_total, deepest}
 use Rattle.b_expand.specs.Expansion.{expansion}
 use Rattle.b_expand.specs.Answers.{Answers, judged, sorted_text, text_of}
 use Rattle.b_expand.specs.declared.faults.Unfit.{Unfit}
-use Rattle.b_expand.specs.declared.faults.Unfit.TheVariants.{NotASentence, TooDeep, TooWide}
+use Rattle.b_expand.specs.declared.faults.Unfit.TheVariants.{TooDeep, TooWide}
 use Rattle.b_expand.specs.declared.faults.Unexpanded.{Unexpanded}
 use Rattle.b_limits.specs.declared.facts.Facts.{Facts}
 use Rattle.b_limits.specs.Facts.{counted, facts_of}
