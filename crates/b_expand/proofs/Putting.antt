@@ -1,6 +1,6 @@
 -- Where a formula expands, what it expands to is the formula with its definitions put in.
-use Rattle.std.proofs.Common.{◌≡◌, ℕ, Bool, true, false, cond, List, [], ◌∷◌, map, fold, Option, Some, None, refl, sym, subst}
-use Rattle.std.specs.Prelude.{bytes_eq}
+use Rattle.std.proofs.Common.{◌≡◌, ℕ, Bool, true, false, cond, List, [], ◌∷◌, map, fold, Option, Some, None, refl, sym, subst, ◌∙◌}
+use Rattle.std.specs.Prelude.{bytes_eq, IfSome}
 use Rattle.b_ast.specs.declared.Place.{Place}
 use Rattle.b_ast.specs.declared.machine.Def.{Def}
 use Rattle.b_ast.specs.declared.machine.DefBody.{DefBody}
@@ -168,3 +168,11 @@ pub filled_is_expanded : (ds : List Def) (t e : Formula) → expansion.expansion
 filled_is_expanded ds t e h =
     let means : SameNames (meanings ds ds) (inserts ds) = same_all ds (λ x. None) (λ x. None) (record { at = λ x. tt }) ds in
     (reads ds (meanings ds ds) (inserts ds) means t).tree.gives 0 [] [] [] (record { many = refl; as_many = refl; same = λ x f. refl }) e h
+
+-- the formula with its definitions put in is what it expands to, where it expands
+pub expands_to : (ds : List Def) (t e : Formula) → e ≡ filled ds t → IfSome (expansion.expansion ds t) (λ wanted. e ≡ wanted)
+expands_to ds t e h = go (expansion.expansion ds t) refl
+  where
+    go : (o : Option Formula) → expansion.expansion ds t ≡ o → IfSome o (λ wanted. e ≡ wanted)
+    go None k = tt
+    go (Some wanted) k = h ∙ filled_is_expanded ds t wanted k

@@ -1,7 +1,8 @@
 //! Formulas with their definitions put in.
 #![tactic(auto)]
 
-ghost use Rattle.std.specs.Prelude.{◌≡◌, IfOk};
+ghost use Rattle.std.specs.Prelude.{◌≡◌, IfOk, IfSome};
+ghost use Rattle.b_expand.specs.Expansion.{expansion};
 ghost use Rattle.b_expand.specs.Filling.{filled};
 
 mod copies;
@@ -20,9 +21,12 @@ use names::Names;
 use needs::needed_in;
 use std::alloc::{AllocError, Global};
 
-/// The tree that a formula becomes when the definitions of a table are put in, without a look at whether they may be.
+/// The tree that a formula becomes when the definitions of a table are put in, without a look at whether they may be; it
+/// takes time and memory for the whole tree, and for the table.
+#[tactic(auto, using(crate::proofs::Putting::expands_to))]
 pub fn expanded(alloc: Global, defs: &DefTable, formula: &Formula) -> Result<Formula, AllocError>
-    ensures { IfOk result (λ e. e ≡ filled defs.now.defs formula.now) }
+    ensures value { IfOk result (λ e. e ≡ filled defs.now.defs formula.now) }
+    ensures expands { IfOk result (λ e. IfSome (expansion defs.now.defs formula.now) (λ wanted. e ≡ wanted)) }
 {
     let table = defs.defs.as_slice();
     let needed = needed_in(table, alloc)?;

@@ -7,7 +7,7 @@ use Rattle.b_ast.specs.declared.After.{After}
 use Rattle.b_ast.specs.declared.After.TheOpen.{Formula-F, Link-F, After-F}
 use Rattle.b_ast.specs.Sorts as sorts
 use Rattle.b_ast.specs.Sorts.{Sorted, sort_of, link_of, after_of}
-use Rattle.b_expand.specs.Places.{node_total, nodes_of_link, nodes_of_after, deepest, depth_of_link, depth_of_after, after_nodes, formula_nodes, link_nodes, after_depth, formula_depth, link_depth, brackets}
+use Rattle.b_expand.specs.Places.{node_total, nodes_of_link, nodes_of_after, deepest, depth_of_link, depth_of_after, formula_nodes, after_depth, formula_depth, brackets}
 use Rattle.b_limits.specs.declared.facts.Facts.{Facts}
 use Rattle.b_limits.specs.declared.facts.LinkFacts.{LinkFacts}
 use Rattle.b_limits.specs.declared.facts.FormFacts.{FormFacts}

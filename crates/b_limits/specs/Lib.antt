@@ -1,2 +1,4 @@
 pub mod Facts
 pub mod Measured
+pub mod Memory
+pub mod Standing

@@ -1,6 +1,6 @@
 -- What is known of the tree that a formula stands for once its definitions are expanded: the expansion with facts in the
 -- place of trees.
-use Rattle.std.specs.Prelude.{ℕ, ◌+◌, ◌==◌, length, Bool, true, false, ◌&&◌, not, if◌then◌else◌, List, [], ◌∷◌, map, fold, position, slice_get, bytes_eq, Option, Some, None, is_some, option_map, option_and_then}
+use Rattle.std.specs.Prelude.{ℕ, ◌==◌, length, Bool, ◌&&◌, not, if◌then◌else◌, List, [], ◌∷◌, map, fold, position, slice_get, bytes_eq, Option, Some, None, is_some, option_map, option_and_then}
 use Rattle.std.specs.List.{list_all}
 use Rattle.b_ast.specs.declared.Place.{Place}
 use Rattle.b_ast.specs.declared.Bound.{Bound}

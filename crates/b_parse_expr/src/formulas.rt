@@ -6,8 +6,9 @@ ghost use Rattle.b_parse_expr.specs.Verdicts as spec;
 use crate::texts::tree_of_text;
 use b_ast::FormulaText;
 use b_ast::machine::DefTable;
-use b_expand::{ParseFault, ParseKind, Unexpanded, Unfit, expand};
+use b_expand::{ParseFault, ParseKind, Unexpanded, Unfit};
 use b_lex::Token;
+use b_limits::expand;
 use std::alloc::Global;
 
 fn kind_of(why: Unfit) -> ParseKind

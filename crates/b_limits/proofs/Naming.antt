@@ -1,0 +1,135 @@
+-- Of two definitions of one name the first counts.
+use borrow.Author.Tests.{ltb-false}
+use Rattle.std.proofs.Common.{◌≡◌, ℕ, zero, suc, ◌+◌, ◌<◌, ◌≤◌, Bool, true, false, not, cond, List, [], ◌∷◌, take, length, map, fold, rules, Option, Some, None, refl, sym, ap, ◌∙◌, subst, arith}
+use Rattle.std.specs.Prelude.{IsSome, IfSome, IfOk, Result, slice_get, option_map, option_and_then, bytes_eq, position, nat_lt}
+use Rattle.std.specs.List.{position_or_len, prefix_len}
+use Rattle.b_ast.specs.declared.machine.Def.{Def}
+use Rattle.b_expand.specs.Expansion.{both, all_of}
+use Rattle.b_limits.specs.declared.facts.Facts.{Facts}
+use Rattle.b_limits.specs.declared.facts.FormFacts.{FormFacts}
+use Rattle.b_limits.specs.Measured.{Scope, Meaning, Meanings, Reading, Form, Measures, sorted, used_with, row_of, applied, plain_row, row, forms, first_arguments, later_forms, first_of, with_definition, meaning_of, meanings}
+
+-- what a name means stays
+keeps : (table : List Def) (m : Meanings) (ds : List Def) (x : List ℕ) (u : Meaning) → m x ≡ Some u → fold (with_definition table) m ds x ≡ Some u
+keeps table m [] x u h = h
+keeps table m (d ∷ ds) x u h = keeps table (with_definition table m d) ds x u (ap (λ o. first_of o (cond (bytes_eq x d.name) (Some (meaning_of table m d.params d.body)) None)) h)
+
+-- what the definition at a place means after those before it
+abbrev pub meaning_from : List Def → Meanings → List Def → ℕ → Option Meaning
+meaning_from table m ds i = option_map (λ d. meaning_of table (fold (with_definition table) m (take i ds)) d.params d.body) (slice_get ds i)
+
+-- the place of the first definition of a name
+abbrev pub first_place : List Def → List ℕ → ℕ
+first_place ds x = position_or_len (λ d. bytes_eq x d.name) ds
+
+unfold_more : (table : List Def) (m : Meanings) (d : Def) (ds : List Def) (n k : ℕ) → n ≡ suc k → meaning_from table m (d ∷ ds) n ≡ meaning_from table (with_definition table m d) ds k
+unfold_more table m d ds n k e = ap (meaning_from table m (d ∷ ds)) e
+
+first_true : (d : Def) (ds : List Def) (x : List ℕ) → bytes_eq x d.name ≡ true → first_place (d ∷ ds) x ≡ 0
+first_true d ds x e = ap (λ (b : Bool). cond (not b) (1 + prefix_len (λ d. not (bytes_eq x d.name)) ds) 0) e
+
+first_false : (d : Def) (ds : List Def) (x : List ℕ) → bytes_eq x d.name ≡ false → first_place (d ∷ ds) x ≡ suc (first_place ds x)
+first_false d ds x e =
+    let on : 1 + first_place ds x ≡ suc (first_place ds x) = omega arith in
+    ap (λ (b : Bool). cond (not b) (1 + prefix_len (λ d. not (bytes_eq x d.name)) ds) 0) e ∙ on
+
+means_next : (table : List Def) (m : Meanings) (d : Def) (x : List ℕ) (b : Bool) → m x ≡ None → bytes_eq x d.name ≡ b → with_definition table m d x ≡ cond b (Some (meaning_of table m d.params d.body)) None
+means_next table m d x b h e =
+    ap (λ o. first_of o (cond (bytes_eq x d.name) (Some (meaning_of table m d.params d.body)) None)) h
+    ∙ ap (λ (b : Bool). cond b (Some (meaning_of table m d.params d.body)) None) e
+
+means_step : (table : List Def) (m : Meanings) (d : Def) (ds : List Def) (x : List ℕ) → m x ≡ None → (with_definition table m d x ≡ None → meaning_from table (with_definition table m d) ds (first_place ds x) ≡ fold (with_definition table) (with_definition table m d) ds x) → (b : Bool) → bytes_eq x d.name ≡ b → meaning_from table m (d ∷ ds) (first_place (d ∷ ds) x) ≡ fold (with_definition table) m (d ∷ ds) x
+means_step table m d ds x h again true e =
+    ap (meaning_from table m (d ∷ ds)) (first_true d ds x e) ∙ sym (keeps table (with_definition table m d) ds x (meaning_of table m d.params d.body) (means_next table m d x true h e))
+means_step table m d ds x h again false e =
+    unfold_more table m d ds (first_place (d ∷ ds) x) (first_place ds x) (first_false d ds x e) ∙ again (means_next table m d x false h e)
+
+-- a name means what its first definition means
+means_first : (table : List Def) (m : Meanings) (ds : List Def) (x : List ℕ) → m x ≡ None → meaning_from table m ds (first_place ds x) ≡ fold (with_definition table) m ds x
+means_first table m [] x h = sym h
+means_first table m (d ∷ ds) x h = means_step table m d ds x h (means_first table (with_definition table m d) ds x) (bytes_eq x d.name) refl
+
+past_end : (ds : List Def) (n : ℕ) → length ds ≤ n → slice_get ds n ≡ None
+past_end [] n h = refl
+past_end (d ∷ ds) zero h = absurd (omega arith)
+past_end (d ∷ ds) (suc n) h = past_end ds n (omega arith)
+
+means_place : (table ds : List Def) (x : List ℕ) (b : Bool) → nat_lt (first_place ds x) (length ds) ≡ b → option_and_then (meaning_from table (λ y. None) ds) (cond b (Some (first_place ds x)) None) ≡ meanings table ds x
+means_place table ds x true e = means_first table (λ y. None) ds x refl
+means_place table ds x false e =
+    let end : length ds ≤ first_place ds x = ltb-false _ _ e in
+    sym (ap (option_map (λ d. meaning_of table (fold (with_definition table) (λ y. None) (take (first_place ds x) ds)) d.params d.body)) (past_end ds (first_place ds x) end)) ∙ means_first table (λ y. None) ds x refl
+
+-- a name means the definition at its place, if it has one
+pub means_at_place : (table ds : List Def) (x : List ℕ) (o : Option ℕ) → o ≡ position (λ d. bytes_eq x d.name) ds → option_and_then (meaning_from table (λ y. None) ds) o ≡ meanings table ds x
+means_at_place table ds x o h = ap (option_and_then (meaning_from table (λ y. None) ds)) h ∙ means_place table ds x (nat_lt (first_place ds x) (length ds)) refl
+
+-- what a definition means depends on those before it alone
+known_meaning : (table : List Def) (m : Meanings) (ds : List Def) (k i : ℕ) → i < length (take k ds) → meaning_from table m (take k ds) i ≡ meaning_from table m ds i
+known_meaning table m ds zero i h = absurd (omega arith)
+known_meaning table m [] (suc k) i h = refl
+known_meaning table m (d ∷ ds) (suc k) zero h = refl
+known_meaning table m (d ∷ ds) (suc k) (suc i) h = known_meaning table (with_definition table m d) ds k i (omega arith)
+
+means_known : (table : List Def) (k : ℕ) (x : List ℕ) (o : Option ℕ) → o ≡ position (λ d. bytes_eq x d.name) (take k table) → IfSome o (λ i. i < length (take k table)) → option_and_then (meaning_from table (λ y. None) table) o ≡ meanings table (take k table) x
+means_known table k x None e h = means_at_place table (take k table) x None e
+means_known table k x (Some i) e h = sym (known_meaning table (λ y. None) table k i h) ∙ means_at_place table (take k table) x (Some i) e
+
+-- a name means the definition at its place among those that a text may use
+pub means_where : (table : List Def) (k : ℕ) (x : List ℕ) (ds : List Def) → ds ≡ take k table → (o : Option ℕ) → o ≡ position (λ d. bytes_eq x d.name) ds → IfSome o (λ i. i < length ds) → option_and_then (meaning_from table (λ y. None) table) o ≡ meanings table (take k table) x
+means_where table k x ds e o h w = means_known table k x o (h ∙ ap (position (λ d. bytes_eq x d.name)) e) (subst (λ (xs : List Def). IfSome o (λ i. i < length xs)) e w)
+
+below_known : (xs : List Def) (k i : ℕ) → i < length (take k xs) → i < k
+below_known xs zero i h = absurd (omega arith)
+below_known [] (suc k) i h = absurd (omega arith)
+below_known (x ∷ xs) (suc k) zero h = omega arith
+below_known (x ∷ xs) (suc k) (suc i) h = let m = below_known xs k i (omega arith) in omega arith
+
+in_table : (xs : List Def) (k i : ℕ) → i < length (take k xs) → i < length xs
+in_table xs zero i h = absurd (omega arith)
+in_table [] (suc k) i h = h
+in_table (x ∷ xs) (suc k) zero h = omega arith
+in_table (x ∷ xs) (suc k) (suc i) h = let m = in_table xs k i (omega arith) in omega arith
+
+-- a place among the definitions that a text may use is below their number, and in the table
+pub all_below : (table : List Def) (k : ℕ) (ds : List Def) → ds ≡ take k table → (o : Option ℕ) → IfSome o (λ i. i < length ds) → IfSome o (λ i. i < k)
+all_below table k ds e None h = tt
+all_below table k ds e (Some i) h = below_known table k i (subst (λ (xs : List Def). i < length xs) e h)
+
+pub all_within : (table : List Def) (k : ℕ) (ds : List Def) → ds ≡ take k table → (o : Option ℕ) → IfSome o (λ i. i < length ds) → IfSome o (λ i. i < length table)
+all_within table k ds e None h = tt
+all_within table k ds e (Some i) h = in_table table k i (subst (λ (xs : List Def). i < length xs) e h)
+
+-- what stands at a place of the table means something
+pub meant : (f : Def → Meaning) (ds : List Def) (i : ℕ) → i < length ds → IsSome (option_map f (slice_get ds i))
+meant f [] i h = absurd (omega arith)
+meant f (d ∷ ds) zero h = search rules
+meant f (d ∷ ds) (suc i) h = meant f ds i (omega arith)
+
+pub meant_where : (f : ℕ → Def → Meaning) (ds : List Def) (o : Option ℕ) → IfSome o (λ i. i < length ds) → IfSome o (λ i. IsSome (option_map (f i) (slice_get ds i)))
+meant_where f ds None h = tt
+meant_where f ds (Some i) h = meant (f i) ds i h
+
+-- a row whose head means a definition, and which begins with arguments, is a use of it
+row_uses : (m : Option Meaning) → IsSome m → (depth : ℕ) (s : Scope) (r : Reading) (fs : List Form) (args : List (Measures Facts)) → first_arguments fs ≡ Some args → row (option_map (λ m. (depth, m)) m) r fs s ≡ both row_of (option_and_then (λ es. option_and_then (λ m. used_with depth m s es) m) (all_of (map sorted (map (λ a. a s) args)))) (forms (later_forms fs) s)
+row_uses None k depth s r fs args e = absurd (search rules)
+row_uses (Some m) k depth s r fs args e = ap (λ a. applied (depth, m) a r fs s) e
+
+row_stays : (m : Option Meaning) (depth : ℕ) (s : Scope) (r : Reading) (fs : List Form) → first_arguments fs ≡ None → row (option_map (λ m. (depth, m)) m) r fs s ≡ plain_row r fs s
+row_stays None depth s r fs e = refl
+row_stays (Some m) depth s r fs e = ap (λ a. applied (depth, m) a r fs s) e
+
+-- the row of a use, from its parts
+pub row_used : (m : Option Meaning) → IsSome m → (depth : ℕ) (s : Scope) (r : Reading) (fs gs : List Form) (args : List (Measures Facts)) → first_arguments fs ≡ Some args → gs ≡ later_forms fs
+    → (es : Option (List Facts)) → es ≡ all_of (map sorted (map (λ a. a s) args))
+    → (used : Option Facts) → used ≡ option_and_then (λ es. option_and_then (λ m. used_with depth m s es) m) es
+    → (rest : Option (List FormFacts)) → rest ≡ forms gs s
+    → (o : Option Facts) → o ≡ both row_of used rest → o ≡ row (option_map (λ m. (depth, m)) m) r fs s
+row_used m k depth s r fs gs args e g es h used u rest q o i =
+    let first : used ≡ option_and_then (λ es. option_and_then (λ m. used_with depth m s es) m) (all_of (map sorted (map (λ a. a s) args))) = u ∙ ap (option_and_then (λ es. option_and_then (λ m. used_with depth m s es) m)) h in
+    let second : rest ≡ forms (later_forms fs) s = q ∙ ap (λ gs. forms gs s) g in
+    i ∙ (ap (λ u. both row_of u rest) first ∙ (ap (both row_of _) second ∙ sym (row_uses m k depth s r fs args e)))
+
+-- a row whose head means a definition, and which begins without arguments, stays a row
+pub row_left : {E : Type 0} (m : Option Meaning) (depth : ℕ) (s : Scope) (r : Reading) (fs : List Form) → first_arguments fs ≡ None → (res : Result (Option Facts) E) → IfOk res (λ o. o ≡ plain_row r fs s) → IfOk res (λ o. o ≡ row (option_map (λ m. (depth, m)) m) r fs s)
+row_left m depth s r fs e res i = subst (λ (z : Option Facts). IfOk res (λ o. o ≡ z)) (sym (row_stays m depth s r fs e)) i
