@@ -1,0 +1,2 @@
+-- Lemmas of the index.
+pub mod Names

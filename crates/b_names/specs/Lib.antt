@@ -1,0 +1,2 @@
+-- The index of a table.
+pub mod Index
