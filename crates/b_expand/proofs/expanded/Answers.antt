@@ -1,0 +1,12 @@
+use Rattle.std.proofs.Common.{List, [], sym, ap, ◌∙◌}
+use Rattle.b_ast.specs.declared.machine.Def.{Def}
+use Rattle.b_expand.specs.Filling.{filled}
+use Rattle.b_expand.specs.Using.{uses}
+use Rattle.b_expand.proofs.Unused.{unused_same}
+use Rattle.b_expand.proofs.Uses.{ok_along}
+use Rattle.b_expand.proofs.expanded.Goals as goal
+
+pub returns-else-has_uses : goal.returns-else-has_uses
+returns-else-has_uses c =
+    ok_along c.put_in-else-has_uses.result (filled [] c.args.formula.now) (filled c.args.defs.now.defs c.args.formula.now)
+    (unused_same c.args.defs.now.defs c.args.formula.now (ap (λ (ds : List Def). uses ds c.args.formula.now) (sym c.as_slice-table.ensures) ∙ (sym c.has_uses.ensures ∙ c.if-has_uses.false))) c.put_in-else-has_uses.ensures
