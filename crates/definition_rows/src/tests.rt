@@ -288,3 +288,51 @@ fn depths(rt: HostRuntime) -> Result<(), Fail> {
     }
     Ok(())
 }
+
+// How many definitions there are, each of which doubles the one before.
+const DOUBLINGS: usize = 30;
+
+// Definitions, and behind them d2 and so on up to so many: by a pattern in which `#` is the name of the one before.
+fn doubling(alloc: Global, first: &str, pattern: &str, count: usize) -> Result<DefTable, Fail> {
+    let DefTable { mut defs } = table(alloc, first)?;
+    for number in 1..count {
+        let name = format!(in alloc; "d{number}")?;
+        let rest = pattern.replace(alloc, "#", name.as_str())?;
+        let next = number + 1;
+        let text = format!(in alloc; "d{next}{rest}")?;
+        defs.push(definition(alloc, text.as_str())?)?;
+    }
+    Ok(DefTable { defs })
+}
+
+// A few doublings are read; thirty are refused before anything of their size is built, and an argument that vanishes is
+// never built.
+#[test]
+fn doublings(rt: HostRuntime) -> Result<(), Fail> {
+    let plain = ("k:x:1;;d1::1 + 1", "::# + #");
+    let applied = ("k:x:1;;d1:x:x + x", ":x:#(x) + #(x)");
+    let nested = ("k:x:1;;d1:x:x + x", ":x:#(#(x))");
+    let wider = ("k:x:1;;d1:x:x + x + x + x", ":x:#(#(x))");
+    let longer = ("d1:x:x + 1", ":x:#(#(x))");
+    let rows = [
+        (plain, 2usize, "d2", "(1 + 1) + (1 + 1)"),
+        (applied, 2, "d2(1)", "(1 + 1) + (1 + 1)"),
+        (nested, 2, "d2(1)", "(1 + 1) + (1 + 1)"),
+        (plain, 2, "k(d2)", "1"),
+        (longer, 6, "d6(1)", "deep"),
+        (plain, DOUBLINGS, "d30", "wide"),
+        (applied, DOUBLINGS, "d30(1)", "wide"),
+        (nested, DOUBLINGS, "d30(1)", "deep"),
+        (wider, 5, "d5(1)", "wide"),
+        (plain, DOUBLINGS, "k(d30)", "1"),
+        (applied, DOUBLINGS, "k(d30(1))", "1"),
+        (nested, DOUBLINGS, "k(d30(1))", "1"),
+        (plain, DOUBLINGS, "k(d30 + (1 = 1))", "none"),
+    ];
+    for ((first, pattern), count, text, wanted) in rows {
+        let defs = doubling(rt.alloc(), first, pattern, count)?;
+        let said = shown(rt.alloc(), &defs, text.as_bytes())?;
+        assert!(rt; said.as_slice() == wanted.as_bytes(), "{text}");
+    }
+    Ok(())
+}
