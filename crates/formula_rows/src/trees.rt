@@ -122,15 +122,15 @@ fn trees(rt: HostRuntime) -> Result<(), Fail> {
     Ok(())
 }
 
-// A long chain is read by a loop.
+// A chain nearly as long as a text may be is read by a loop.
 #[test]
 fn long_chain(rt: HostRuntime) -> Result<(), Fail> {
     let mut text = Vec::new(rt.alloc());
-    for _ in 0..100_000 {
-        text.extend_from_slice(b"1+")?;
+    for _ in 0..500_000 {
+        text.extend_from_slice(b"1-")?;
     }
     text.push(b'1')?;
-    assert_eq!(rt; shown(rt.alloc(), &text)?.as_str(), "chain 100000 number");
+    assert_eq!(rt; shown(rt.alloc(), &text)?.as_str(), "chain 500000 number");
     Ok(())
 }
 
