@@ -1,14 +1,14 @@
 -- A formula that uses no definition becomes the same with a table and without.
 use Rattle.std.proofs.Common.{◌≡◌, ℕ, Bool, true, false, List, [], ◌∷◌, map, fold, Option, Some, None, refl, sym, ap, ◌∙◌, subst}
 use Rattle.std.specs.Prelude.{◌||◌, ◌==◌, if◌then◌else◌, length, IfSome, is_some, position, bytes_eq, option_and_then}
-use Rattle.std.specs.List.{list_any, AllByRecursion}
+use Rattle.std.specs.List.{AllByRecursion}
 use Rattle.b_ast.specs.declared.Place.{Place}
 use Rattle.b_ast.specs.declared.machine.Def.{Def}
 use Rattle.b_ast.specs.declared.Formula.{Formula, roll-Formula, map-Formula, fold-roll-Formula}
-use Rattle.b_ast.specs.declared.Link.{Link, roll-Link, map-Link, fold-roll-Link}
+use Rattle.b_ast.specs.declared.Link.{Link, roll-Link, fold-roll-Link}
 use Rattle.b_ast.specs.declared.After.{After, roll-After, map-After, fold-roll-After}
 use Rattle.b_ast.specs.declared.After.TheOpen.{Formula-F, Link-F, After-F}
-use Rattle.b_expand.specs.Expansion.{Scope, tree_of}
+use Rattle.b_expand.specs.Expansion.{tree_of}
 use Rattle.b_expand.specs.Filling.{Insert, Inserts, Filling, Form, Side, alone, named, called, row, row_needs, after_step, formula_step, link_step, filling, form_of, side_of, with_definition, inserts, filled}
 use Rattle.b_expand.specs.Using.{is_defined, any_of, after_uses, formula_uses, link_uses, uses, link_has_uses, form_has_uses}
 use Rattle.b_expand.proofs.Naming.{means_next}

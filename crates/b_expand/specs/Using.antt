@@ -1,5 +1,5 @@
 -- Whether a tree uses definitions of a table.
-use Rattle.std.specs.Prelude.{ℕ, Bool, false, ◌||◌, List, map, bytes_eq}
+use Rattle.std.specs.Prelude.{ℕ, Bool, false, ◌||◌, List, bytes_eq}
 use Rattle.std.specs.List.{list_any}
 use Rattle.b_ast.specs.declared.machine.Def.{Def}
 use Rattle.b_ast.specs.declared.Formula.{Formula, fold-Formula}
