@@ -1,5 +1,6 @@
 -- Lemmas of the expander.
 pub mod Naming
+pub mod Indexing
 pub mod Tables
 pub mod Uses
 pub mod Work

@@ -1,10 +1,12 @@
 -- What the records of a text say: the definitions that it may use, and its scope.
-use Rattle.std.specs.Prelude.{◌≡◌, ℕ, Bool, List, map, take, Option, Some, None, slice_get, option_map}
+use Rattle.std.specs.Prelude.{◌≡◌, ℕ, nat_lt, Bool, cond, List, length, map, take, Option, Some, None, slice_get, option_map}
 use Rattle.b_ast.specs.declared.machine.Def.{Def}
 use Rattle.b_ast.specs.declared.machine.DefBody.{DefBody}
 use Rattle.b_ast.specs.declared.Formula.{Formula}
 use Rattle.b_ast.specs.declared.Link.{Link}
 use Rattle.b_ast.specs.declared.After.{After}
+use Rattle.b_names.specs.declared.places.Index.{Index}
+use Rattle.b_names.specs.Index.{answer_of, place_of}
 use Rattle.b_expand.specs.declared.names.Names.{Names}
 use Rattle.b_expand.specs.declared.expander.Standing.{Standing}
 use Rattle.b_expand.specs.Places.{brackets}
@@ -22,9 +24,25 @@ means_in n = spec.inserts n.before.now
 abbrev pub insert_at : Names → ℕ → Option Insert
 insert_at n i = option_map (λ d. spec.insert_of (spec.inserts (take i n.before.now)) d.params d.body) (slice_get n.before.now i)
 
--- the rows are those of the definitions
+-- a place, where it is less than a bound
+abbrev pub until : ℕ → Option ℕ → Option ℕ
+until bound None = None
+until bound (Some i) = cond (nat_lt i bound) (Some i) None
+
+-- below the end of some definitions the index of a table answers as a search through them does
+unfoldable pub IsKnown : List Def → Index → Type 0
+IsKnown ds index = (x : List ℕ) → until (length ds) (answer_of index x) ≡ place_of ds x
+
+-- the rows are those of some definitions, and the index knows these
+abbrev pub AreNeedsOf : List Def → List (List Bool) → Index → Type 0
+AreNeedsOf ds rs index = record {
+  needed : rs ≡ rows ds;
+  known : IsKnown ds index;
+}
+
+-- the rows are those of the definitions, and the index knows these
 abbrev pub AreNeeds : Names → Type 0
-AreNeeds n = n.needed.now ≡ rows n.before.now
+AreNeeds n = AreNeedsOf n.before.now n.needed.now n.index.now
 
 abbrev pub filling_in : Names → Formula → Filling
 filling_in n = spec.filling (means_in n)

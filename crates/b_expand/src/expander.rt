@@ -3,8 +3,8 @@ ghost use Rattle.std.specs.Prelude.{◌≡◌, ℕ, ◌+◌, ◌<◌, ◌≤◌,
 ghost use Rattle.std.specs.Option.{option_copied};
 ghost use Rattle.b_expand.specs.Expansion as spec;
 ghost use Rattle.b_expand.specs.Filling as filling;
-ghost use Rattle.b_expand.specs.Needed.{argument, rows};
-ghost use Rattle.b_expand.specs.Standing.{AreNeeds, insert_at, means_in, scope_of, side_in, form_in, tree_in, trees_in, links_in, forms_in, row_in, called_row_in, plain_row_in, arguments_in, operands_in, round_in, used_in, definition_in, body_in};
+ghost use Rattle.b_expand.specs.Needed.{argument};
+ghost use Rattle.b_expand.specs.Standing.{AreNeeds, AreNeedsOf, insert_at, means_in, scope_of, side_in, form_in, tree_in, trees_in, links_in, forms_in, row_in, called_row_in, plain_row_in, arguments_in, operands_in, round_in, used_in, definition_in, body_in};
 
 use crate::copies::{brackets, copied, deeper, deeper_bounds, deeper_place};
 use crate::names::{Names, application, called, meaning_of, needed_of, place_of, several};
@@ -355,7 +355,7 @@ fn fill_operands(
 }
 
 #[cycle(fill)]
-#[tactic(auto, using(crate::proofs::Work::work_at, crate::proofs::Tables::first_rows, crate::proofs::Tables::row_count))]
+#[tactic(auto, using(crate::proofs::Work::work_at, crate::proofs::Tables::first_rows, crate::proofs::Tables::row_count, crate::proofs::Indexing::first_known))]
 fn fill_use(
     i: usize,
     depth: u64,
@@ -386,13 +386,14 @@ fn fill_definition(
     alloc: Global,
     text: &Standing<'_>,
 ) -> Result<Formula, AllocError>
-    requires { needed.now ≡ rows before.now }
+    requires { AreNeedsOf before.now needed.now text.now.names.index.now }
     ensures { IfOk result (λ e. e ≡ definition_in text.now def.now before.now depth trees.now) }
 {
     let inner = Standing {
         names: Names {
             before,
             needed,
+            index: text.names.index,
             params: def.params.as_slice(),
         },
         round: round_of_use(text, depth),

@@ -4,6 +4,7 @@
 ghost use Rattle.std.specs.Prelude.{◌≡◌, IfOk, IfSome};
 ghost use Rattle.b_expand.specs.Expansion.{expansion};
 ghost use Rattle.b_expand.specs.Filling.{filled};
+ghost use Rattle.b_expand.specs.Standing.{IsKnown};
 
 mod copies;
 mod expander;
@@ -15,9 +16,10 @@ pub mod places;
 
 use b_ast::Formula;
 use b_ast::machine::{Def, DefTable};
+use b_names::Index;
 use expander::{Standing, fill};
 pub use faults::{ParseFault, ParseKind, Unexpanded, Unfit};
-use names::Names;
+use names::{Names, indexed};
 use needs::needed_in;
 use places::has_uses;
 use std::alloc::{AllocError, Global};
@@ -31,24 +33,33 @@ pub fn expanded(alloc: Global, defs: &DefTable, formula: &Formula) -> Result<For
     filled_in(alloc, defs.defs.as_slice(), formula)
 }
 
+#[tactic(auto, using(crate::proofs::Unused::unused_same, crate::proofs::Indexing::knows_none))]
 fn filled_in(alloc: Global, table: &[Def], formula: &Formula) -> Result<Formula, AllocError>
     ensures { IfOk result (λ e. e ≡ filled table.now formula.now) }
 {
-    if has_uses(formula, table) {
-        put_in(alloc, table, formula)
+    let index = indexed(table, alloc)?;
+    if has_uses(formula, &index) {
+        put_in(alloc, table, &index, formula)
     } else {
-        put_in(alloc, &[], formula)
+        put_in(alloc, &[], &index, formula)
     }
 }
 
-fn put_in(alloc: Global, table: &[Def], formula: &Formula) -> Result<Formula, AllocError>
+fn put_in(
+    alloc: Global,
+    table: &[Def],
+    index: &Index,
+    formula: &Formula,
+) -> Result<Formula, AllocError>
+    requires { IsKnown table.now index.now }
     ensures { IfOk result (λ e. e ≡ filled table.now formula.now) }
 {
-    let needed = needed_in(table, alloc)?;
+    let needed = needed_in(table, index, alloc)?;
     let text = Standing {
         names: Names {
             before: table,
             needed: needed.as_slice(),
+            index,
             params: &[],
         },
         round: 0,

@@ -1,15 +1,18 @@
 //! What names may mean in a text.
-ghost use Rattle.std.specs.Prelude.{◌≡◌, [], ◌∷◌, ◌+◌, ◌<◌, ◌≤◌, ◌==◌, not, length, map, sum, Option, Some, None, IfSome, IsSome, MatchOption, position, bytes_eq, option_and_then, option_map};
+ghost use Rattle.std.specs.Prelude.{◌≡◌, [], ◌∷◌, ◌+◌, ◌<◌, ◌≤◌, ◌==◌, not, length, map, sum, Option, Some, None, IfOk, IfSome, IsSome, MatchOption, position, bytes_eq, option_and_then, option_map};
 ghost use Rattle.std.specs.List.{list_all};
+ghost use Rattle.b_names.specs.Index.{IsIndexOf};
 ghost use Rattle.b_expand.specs.Filling as spec;
 ghost use Rattle.b_expand.specs.Needed.{row_of};
 ghost use Rattle.b_expand.specs.Places.{node_total, nodes_of_link, nodes_of_after};
-ghost use Rattle.b_expand.specs.Standing.{means_in, insert_at, AreNeeds, filling_in, form_in, side_in, called_in};
+ghost use Rattle.b_expand.specs.Standing.{until, IsKnown, means_in, insert_at, AreNeeds, filling_in, form_in, side_in, called_in};
 
 use crate::parts::is_comma;
 use b_ast::machine::Def;
 use b_ast::{After, Formula, Link};
+use b_names::{Index, index_of};
 use sqlite_items::Items;
+use std::alloc::{AllocError, Global};
 
 /// What names may mean in a text.
 #[derive(Clone, Copy)]
@@ -18,15 +21,38 @@ pub struct Names<'a> {
     pub before: &'a [Def],
     /// For each of them, which of its parameters have a place in its body.
     pub needed: &'a [Items<bool>],
+    /// The index of a table that they are the first of.
+    pub index: &'a Index,
     /// The parameters of the text.
     pub params: &'a [Items<u8>],
 }
 
-fn definition_of(defs: &[Def], name: &[u8]) -> Option<usize>
-    ensures value { result ≡ position (λ d. bytes_eq name.now d.name) defs.now }
-    ensures within { IfSome result (λ i. i < length defs.now) }
+/// The index of a table.
+pub fn indexed(defs: &[Def], alloc: Global) -> Result<Index, AllocError>
+    ensures known { IfOk result (λ index. IsKnown defs.now index) }
+    ensures index { IfOk result (λ index. IsIndexOf defs.now index) }
 {
-    defs.iter().position(|def| name == def.name.as_slice())
+    index_of(alloc, defs)
+}
+
+// A place, where it is less than a bound.
+fn below(place: Option<usize>, bound: usize) -> Option<usize>
+    ensures value { result ≡ until bound place }
+    ensures within { IfSome result (λ i. i < bound) }
+{
+    match place {
+        Some(i) => { if i < bound { Some(i) } else { None } }
+        None => None,
+    }
+}
+
+// The place of the first definition of a name among those that a text may use.
+fn definition_of(names: &Names<'_>, name: &[u8]) -> Option<usize>
+    requires { AreNeeds names.now }
+    ensures value { result ≡ position (λ d. bytes_eq name.now d.name) names.now.before.now }
+    ensures within { IfSome result (λ i. i < length names.now.before.now) }
+{
+    below(names.index.first(name), names.before.len())
 }
 
 /// The place of a name among some: of equal names the first counts.
@@ -38,11 +64,12 @@ pub fn place_of(names: &[Items<u8>], name: &[u8]) -> Option<usize>
 
 /// The definition that a name means in a text.
 pub fn meaning_of(names: &Names<'_>, name: &[u8]) -> Option<usize>
+    requires { AreNeeds names.now }
     ensures value { option_and_then (insert_at names.now) result ≡ means_in names.now name.now }
     ensures within { IfSome result (λ i. i < length names.now.before.now) }
     ensures known { IfSome result (λ i. IsSome (insert_at names.now i)) }
 {
-    definition_of(names.before, name)
+    definition_of(names, name)
 }
 
 // Whether a definition has parameters.
@@ -68,6 +95,7 @@ pub fn needed_of<'a>(names: &Names<'a>, i: usize) -> &'a [bool]
 
 /// The definition with parameters that the head of a row names, with the depth of the name's place.
 pub fn called(head: &Formula, names: &Names<'_>) -> Option<(u64, usize)>
+    requires { AreNeeds names.now }
     ensures value { option_and_then (λ c. option_map (λ m. (c.0, m)) (insert_at names.now c.1)) result ≡ called_in names.now head.now }
     ensures within { IfSome result (λ c. c.1 < length names.now.before.now) }
     ensures known { IfSome result (λ c. IsSome (insert_at names.now c.1)) }

@@ -2,11 +2,12 @@
 ghost use Rattle.std.specs.Prelude.{◌≡◌, ℕ, [], ◌∷◌, ◌+◌, ◌<◌, ◌≤◌, ◌&&◌, length, map, Option, Some, None, IfOk, IsSome, option_map};
 ghost use Rattle.b_expand.specs.Filling as spec;
 ghost use Rattle.b_expand.specs.Needed.{row_of, rows, listed_needs};
-ghost use Rattle.b_expand.specs.Standing.{means_in, insert_at, AreNeeds, filling_in, form_in, side_in, needs_in, any_need, any_link_needs, any_form_needs, row_needs_in, plain_row_needs_in, called_needs_in};
+ghost use Rattle.b_expand.specs.Standing.{IsKnown, means_in, insert_at, AreNeeds, AreNeedsOf, filling_in, form_in, side_in, needs_in, any_need, any_link_needs, any_form_needs, row_needs_in, plain_row_needs_in, called_needs_in};
 
 use crate::names::{Names, application, called, needed_of, several};
 use b_ast::machine::{Def, DefBody};
 use b_ast::{After, Formula, Link};
+use b_names::Index;
 use sqlite_items::Items;
 use std::alloc::{AllocError, Global};
 
@@ -222,26 +223,33 @@ fn row_for(
     alloc: Global,
     before: &[Def],
     needed: &[Items<bool>],
+    index: &Index,
 ) -> Result<Items<bool>, AllocError>
-    requires { needed.now ≡ rows before.now }
+    requires { AreNeedsOf before.now needed.now index.now }
     ensures { IfOk result (λ row. row ≡ row_of (spec.insert_of (spec.inserts before.now) def.now.params def.now.body)) }
 {
     let names = Names {
         before,
         needed,
+        index,
         params: def.params.as_slice(),
     };
     places_in(&def.body, alloc, &names)
 }
 
 /// For each definition of a table, which of its parameters have a place in its body.
-pub fn needed_in(defs: &[Def], alloc: Global) -> Result<Items<Items<bool>>, AllocError>
+pub fn needed_in(
+    defs: &[Def],
+    index: &Index,
+    alloc: Global,
+) -> Result<Items<Items<bool>>, AllocError>
+    requires { IsKnown defs.now index.now }
     ensures { IfOk result (λ needed. needed ≡ rows defs.now) }
 {
     let mut needed = Items::new(alloc);
     for (i, def) in defs.iter().enumerate() {
         let (before, _rest) = defs.split_at(i);
-        let row = row_for(def, alloc, before, needed.as_slice())?;
+        let row = row_for(def, alloc, before, needed.as_slice(), index)?;
         needed.push(row)?;
     }
     Ok(needed)

@@ -2,12 +2,12 @@
 ghost use Rattle.std.specs.Prelude.{◌≡◌, ◌||◌, is_some, map};
 ghost use Rattle.b_expand.specs.Using as spec;
 
-use b_ast::machine::Def;
 use b_ast::{After, Formula, Link};
+use b_names::Index;
 
 /// The byte of the first use of a definition in a formula, or of the formula itself.
-pub fn refused_at(formula: &Formula, defs: &[Def]) -> u64 {
-    match first_use(formula, defs) {
+pub fn refused_at(formula: &Formula, index: &Index) -> u64 {
+    match first_use(formula, index) {
         Some(at) => at,
         None => first_byte(formula),
     }
@@ -33,10 +33,10 @@ fn first_byte(tree: &Formula) -> u64 {
     }
 }
 
-fn is_defined(name: &[u8], defs: &[Def]) -> bool
-    ensures { result ≡ spec.is_defined defs.now name.now }
+fn is_defined(name: &[u8], index: &Index) -> bool
+    ensures { result ≡ spec.is_defined index.now name.now }
 {
-    defs.iter().any(|def| name == def.name.as_slice())
+    index.first(name).is_some()
 }
 
 fn either(first: Option<u64>, second: Option<u64>) -> Option<u64>
@@ -49,19 +49,19 @@ fn either(first: Option<u64>, second: Option<u64>) -> Option<u64>
 }
 
 /// Whether a formula uses definitions.
-pub(crate) fn has_uses(tree: &Formula, defs: &[Def]) -> bool
-    ensures { result ≡ spec.uses defs.now tree.now }
+pub(crate) fn has_uses(tree: &Formula, index: &Index) -> bool
+    ensures { result ≡ spec.uses index.now tree.now }
 {
-    first_use(tree, defs).is_some()
+    first_use(tree, index).is_some()
 }
 
 #[cycle(first_use)]
-fn first_use(tree: &Formula, defs: &[Def]) -> Option<u64>
-    ensures { is_some result ≡ spec.uses defs.now tree.now }
+fn first_use(tree: &Formula, index: &Index) -> Option<u64>
+    ensures { is_some result ≡ spec.uses index.now tree.now }
 {
     match tree {
         Formula::Name(at, x) => {
-            if is_defined(x.as_slice(), defs) {
+            if is_defined(x.as_slice(), index) {
                 Some(at.at)
             } else {
                 None
@@ -71,37 +71,37 @@ fn first_use(tree: &Formula, defs: &[Def]) -> Option<u64>
         Formula::Text(_, _) => None,
         Formula::Old(_, _) => None,
         Formula::Constant(_, _) => None,
-        Formula::Negative(_, e) => first_use(e.get(), defs),
+        Formula::Negative(_, e) => first_use(e.get(), index),
         Formula::Chain(e, links) => either(
-            first_use(e.get(), defs),
-            first_use_of_links(links.as_slice(), defs),
+            first_use(e.get(), index),
+            first_use_of_links(links.as_slice(), index),
         ),
         Formula::Row(e, forms) => either(
-            first_use(e.get(), defs),
-            first_use_of_forms(forms.as_slice(), defs),
+            first_use(e.get(), index),
+            first_use_of_forms(forms.as_slice(), index),
         ),
-        Formula::Call(_, _, es) => first_use_of(es.as_slice(), defs),
-        Formula::Set(_, es) => first_use_of(es.as_slice(), defs),
-        Formula::Sequence(_, es) => first_use_of(es.as_slice(), defs),
-        Formula::Comprehension(_, _, p) => first_use(p.get(), defs),
-        Formula::Quantified(_, _, _, p) => first_use(p.get(), defs),
+        Formula::Call(_, _, es) => first_use_of(es.as_slice(), index),
+        Formula::Set(_, es) => first_use_of(es.as_slice(), index),
+        Formula::Sequence(_, es) => first_use_of(es.as_slice(), index),
+        Formula::Comprehension(_, _, p) => first_use(p.get(), index),
+        Formula::Quantified(_, _, _, p) => first_use(p.get(), index),
         Formula::Collected(_, _, _, p, e) => either(
-            first_use(p.get(), defs),
-            first_use(e.get(), defs),
+            first_use(p.get(), index),
+            first_use(e.get(), index),
         ),
         Formula::If(_, p, e, f) => either(
-            first_use(p.get(), defs),
-            either(first_use(e.get(), defs), first_use(f.get(), defs)),
+            first_use(p.get(), index),
+            either(first_use(e.get(), index), first_use(f.get(), index)),
         ),
     }
 }
 
 #[cycle(first_use)]
-fn first_use_of(trees: &[Formula], defs: &[Def]) -> Option<u64>
-    ensures { is_some result ≡ spec.any_of (map (spec.uses defs.now) trees.now) }
+fn first_use_of(trees: &[Formula], index: &Index) -> Option<u64>
+    ensures { is_some result ≡ spec.any_of (map (spec.uses index.now) trees.now) }
 {
     for tree in trees {
-        if let Some(at) = first_use(tree, defs) {
+        if let Some(at) = first_use(tree, index) {
             return Some(at);
         }
     }
@@ -109,11 +109,11 @@ fn first_use_of(trees: &[Formula], defs: &[Def]) -> Option<u64>
 }
 
 #[cycle(first_use)]
-fn first_use_of_links(links: &[Link], defs: &[Def]) -> Option<u64>
-    ensures { is_some result ≡ spec.any_of (map (spec.link_has_uses defs.now) links.now) }
+fn first_use_of_links(links: &[Link], index: &Index) -> Option<u64>
+    ensures { is_some result ≡ spec.any_of (map (spec.link_has_uses index.now) links.now) }
 {
     for link in links {
-        if let Some(at) = first_use_of_link(link, defs) {
+        if let Some(at) = first_use_of_link(link, index) {
             return Some(at);
         }
     }
@@ -121,18 +121,18 @@ fn first_use_of_links(links: &[Link], defs: &[Def]) -> Option<u64>
 }
 
 #[cycle(first_use)]
-fn first_use_of_link(link: &Link, defs: &[Def]) -> Option<u64>
-    ensures { is_some result ≡ spec.link_has_uses defs.now link.now }
+fn first_use_of_link(link: &Link, index: &Index) -> Option<u64>
+    ensures { is_some result ≡ spec.link_has_uses index.now link.now }
 {
-    first_use(&link.operand, defs)
+    first_use(&link.operand, index)
 }
 
 #[cycle(first_use)]
-fn first_use_of_forms(forms: &[After], defs: &[Def]) -> Option<u64>
-    ensures { is_some result ≡ spec.any_of (map (spec.form_has_uses defs.now) forms.now) }
+fn first_use_of_forms(forms: &[After], index: &Index) -> Option<u64>
+    ensures { is_some result ≡ spec.any_of (map (spec.form_has_uses index.now) forms.now) }
 {
     for form in forms {
-        if let Some(at) = first_use_of_form(form, defs) {
+        if let Some(at) = first_use_of_form(form, index) {
             return Some(at);
         }
     }
@@ -140,12 +140,12 @@ fn first_use_of_forms(forms: &[After], defs: &[Def]) -> Option<u64>
 }
 
 #[cycle(first_use)]
-fn first_use_of_form(form: &After, defs: &[Def]) -> Option<u64>
-    ensures { is_some result ≡ spec.form_has_uses defs.now form.now }
+fn first_use_of_form(form: &After, index: &Index) -> Option<u64>
+    ensures { is_some result ≡ spec.form_has_uses index.now form.now }
 {
     match form {
         After::Converse(_) => None,
-        After::Apply(_, e) => first_use(e, defs),
-        After::Image(_, e) => first_use(e, defs),
+        After::Apply(_, e) => first_use(e, index),
+        After::Image(_, e) => first_use(e, index),
     }
 }

@@ -6,6 +6,7 @@ use Rattle.b_expand.specs.Needed.{rows}
 use Rattle.b_expand.specs.Standing.{insert_at, means_in, scope_of, filling_in, form_in, body_of, round_in}
 use Rattle.b_expand.proofs.Uses.{called_row, named_tree, named_use, ok_along}
 use Rattle.b_expand.proofs.Tables.{first_rows, row_count}
+use Rattle.b_expand.proofs.Indexing.{first_known}
 use Rattle.b_expand.proofs.Work.{work, work_at, body_nodes}
 use Rattle.b_expand.proofs.expander.+fill.Goals as goal
 
@@ -31,12 +32,15 @@ fill_name-returns-in-Some-meaning_of t c =
 
 pub fill_use-split_at-requires-2 : goal.fill_use-split_at-requires-2
 fill_use-split_at-requires-2 t c =
-    let k : length c.args.text.now.names.needed.now ≡ length c.args.text.now.names.before.now = row_count c.args.text.now.names.before.now c.args.text.now.names.needed.now c.requires.needs in omega arith
+    let k : length c.args.text.now.names.needed.now ≡ length c.args.text.now.names.before.now = row_count c.args.text.now.names.before.now c.args.text.now.names.needed.now c.requires.needs.needed in omega arith
 
 pub fill_use-fill_definition-requires : goal.fill_use-fill_definition-requires
 fill_use-fill_definition-requires t c =
     let w : 1 + (body_nodes c.in-Some.def.now.body + work (take c.args.i c.args.text.now.names.before.now)) ≤ work c.args.text.now.names.before.now = work_at c.args.text.now.names.before.now c.args.i c.in-Some.def.now (sym c.in-Some.ensures) in
     let f : work c.split_at.result.0.now ≡ work (take c.args.i c.args.text.now.names.before.now) = ap work c.split_at.ensures.front in (
       first_of (omega arith, search (rules, w, f)),
-      c.split_at-2.ensures.front ∙ (first_rows c.args.text.now.names.before.now c.args.text.now.names.needed.now c.args.i c.requires.needs ∙ ap rows (sym c.split_at.ensures.front)),
+      record {
+        needed = c.split_at-2.ensures.front ∙ (first_rows c.args.text.now.names.before.now c.args.text.now.names.needed.now c.args.i c.requires.needs.needed ∙ ap rows (sym c.split_at.ensures.front));
+        known = first_known c.args.text.now.names.before.now c.args.text.now.names.index.now c.requires.needs.known c.args.i (omega arith) c.split_at.result.0.now c.split_at.ensures.front;
+      },
     )
