@@ -5,6 +5,7 @@ ghost use Rattle.std.specs.Prelude.{◌≡◌, IfOk, IsSome};
 ghost use Rattle.b_expand.specs.Answers as answers;
 ghost use Rattle.b_expand.specs.Expansion.{expansion};
 ghost use Rattle.b_limits.specs.Measured.{measure};
+ghost use Rattle.b_limits.specs.Memory.{IsIndexed};
 ghost use Rattle.b_limits.specs.Standing.{limited, verdict_of, text_by};
 
 mod facts;
@@ -14,10 +15,11 @@ mod parts;
 mod sorts;
 mod sums;
 
-use b_ast::machine::DefTable;
+use b_ast::machine::{Def, DefTable};
 use b_ast::{Expr, Formula, FormulaText, Pred, Sort};
 use b_expand::places::refused_at;
 use b_expand::{Unexpanded, Unfit, expanded};
+use b_names::{Index, index_of};
 pub use facts::{Facts, FormFacts, LinkFacts};
 use measuring::{Measuring, walk};
 use memory::nothing;
@@ -40,8 +42,10 @@ pub fn measured(
     ensures { IfOk result (λ o. o ≡ measure defs.now.defs formula.now) }
 {
     let table = defs.defs.as_slice();
+    let index = indexed(alloc, table)?;
     let text = Measuring {
         table,
+        index: &index,
         known: table.len(),
         round: 0,
         params: &[],
@@ -49,6 +53,13 @@ pub fn measured(
     };
     let mut memory = nothing(alloc, table);
     walk(formula, alloc, &mut memory, &text)
+}
+
+// The index of the names of a table.
+fn indexed(alloc: Global, table: &[Def]) -> Result<Index, AllocError>
+    ensures { IfOk result (IsIndexed table.now) }
+{
+    index_of(alloc, table)
 }
 
 /// The text that a formula is once its definitions are expanded, as an expression or a predicate by its sort. A refusal
