@@ -8,3 +8,4 @@ pub mod PuttingNames
 pub mod PuttingUses
 pub mod PuttingLayers
 pub mod Putting
+pub mod Unused

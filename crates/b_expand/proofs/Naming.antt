@@ -30,7 +30,7 @@ first_false d ds x e =
     let on : 1 + first_place ds x ≡ suc (first_place ds x) = omega arith in
     ap (λ (b : Bool). cond (not b) (1 + prefix_len (λ d. not (bytes_eq x d.name)) ds) 0) e ∙ on
 
-means_next : (m : Inserts) (d : Def) (x : List ℕ) (b : Bool) → m x ≡ None → bytes_eq x d.name ≡ b → with_definition m d x ≡ cond b (Some (insert_of m d.params d.body)) None
+pub means_next : (m : Inserts) (d : Def) (x : List ℕ) (b : Bool) → m x ≡ None → bytes_eq x d.name ≡ b → with_definition m d x ≡ cond b (Some (insert_of m d.params d.body)) None
 means_next m d x b h e =
     ap (λ o. first_of o (cond (bytes_eq x d.name) (Some (insert_of m d.params d.body)) None)) h
     ∙ ap (λ (b : Bool). cond b (Some (insert_of m d.params d.body)) None) e

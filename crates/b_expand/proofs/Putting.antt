@@ -1,6 +1,6 @@
 -- Where a formula expands, what it expands to is the formula with its definitions put in.
-use Rattle.std.proofs.Common.{◌≡◌, ℕ, Bool, true, false, cond, List, [], ◌∷◌, map, fold, Option, Some, None, refl, sym, subst, ◌∙◌}
-use Rattle.std.specs.Prelude.{bytes_eq, IfSome}
+use Rattle.std.proofs.Common.{◌≡◌, ℕ, Bool, true, false, cond, List, [], ◌∷◌, map, fold, Option, Some, None, Result, Ok, Err, refl, sym, ap, subst, ◌∙◌}
+use Rattle.std.specs.Prelude.{bytes_eq, IfOk, IfSome}
 use Rattle.b_ast.specs.declared.Place.{Place}
 use Rattle.b_ast.specs.declared.machine.Def.{Def}
 use Rattle.b_ast.specs.declared.machine.DefBody.{DefBody}
@@ -176,3 +176,8 @@ expands_to ds t e h = go (expansion.expansion ds t) refl
     go : (o : Option Formula) → expansion.expansion ds t ≡ o → IfSome o (λ wanted. e ≡ wanted)
     go None k = tt
     go (Some wanted) k = h ∙ filled_is_expanded ds t wanted k
+
+-- the same of an answer, from the definitions in another place
+pub expands_if_ok : {E : Type 0} (ds table : List Def) (t : Formula) (res : Result Formula E) → table ≡ ds → IfOk res (λ e. e ≡ filled table t) → IfOk res (λ e. IfSome (expansion.expansion ds t) (λ wanted. e ≡ wanted))
+expands_if_ok ds table t (Ok e) b h = expands_to ds t e (h ∙ ap (λ (table : List Def). filled table t) b)
+expands_if_ok ds table t (Err f) b h = tt

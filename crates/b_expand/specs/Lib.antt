@@ -4,4 +4,5 @@ pub mod Expansion
 pub mod Filling
 pub mod Answers
 pub mod Needed
+pub mod Using
 pub mod Standing

@@ -14,21 +14,36 @@ mod parts;
 pub mod places;
 
 use b_ast::Formula;
-use b_ast::machine::DefTable;
+use b_ast::machine::{Def, DefTable};
 use expander::{Standing, fill};
 pub use faults::{ParseFault, ParseKind, Unexpanded, Unfit};
 use names::Names;
 use needs::needed_in;
+use places::has_uses;
 use std::alloc::{AllocError, Global};
 
-/// The tree that a formula becomes when the definitions of a table are put in, without a look at whether they may be; it
-/// takes time and memory for the whole tree, and for the table.
-#[tactic(auto, using(crate::proofs::Putting::expands_to))]
+/// The tree that a formula becomes when the definitions of a table are put in, without a look at whether they may be. An
+/// argument that has no place in a definition's body costs nothing, nor does the table where none of it is used.
 pub fn expanded(alloc: Global, defs: &DefTable, formula: &Formula) -> Result<Formula, AllocError>
     ensures value { IfOk result (λ e. e ≡ filled defs.now.defs formula.now) }
     ensures expands { IfOk result (λ e. IfSome (expansion defs.now.defs formula.now) (λ wanted. e ≡ wanted)) }
 {
-    let table = defs.defs.as_slice();
+    filled_in(alloc, defs.defs.as_slice(), formula)
+}
+
+fn filled_in(alloc: Global, table: &[Def], formula: &Formula) -> Result<Formula, AllocError>
+    ensures { IfOk result (λ e. e ≡ filled table.now formula.now) }
+{
+    if has_uses(formula, table) {
+        put_in(alloc, table, formula)
+    } else {
+        put_in(alloc, &[], formula)
+    }
+}
+
+fn put_in(alloc: Global, table: &[Def], formula: &Formula) -> Result<Formula, AllocError>
+    ensures { IfOk result (λ e. e ≡ filled table.now formula.now) }
+{
     let needed = needed_in(table, alloc)?;
     let text = Standing {
         names: Names {

@@ -1,4 +1,7 @@
 //! Places that help a user to see why a formula is refused.
+ghost use Rattle.std.specs.Prelude.{◌≡◌, ◌||◌, is_some, map};
+ghost use Rattle.b_expand.specs.Using as spec;
+
 use b_ast::machine::Def;
 use b_ast::{After, Formula, Link};
 
@@ -30,19 +33,32 @@ fn first_byte(tree: &Formula) -> u64 {
     }
 }
 
-fn is_defined(name: &[u8], defs: &[Def]) -> bool {
+fn is_defined(name: &[u8], defs: &[Def]) -> bool
+    ensures { result ≡ spec.is_defined defs.now name.now }
+{
     defs.iter().any(|def| name == def.name.as_slice())
 }
 
-fn either(first: Option<u64>, second: Option<u64>) -> Option<u64> {
+fn either(first: Option<u64>, second: Option<u64>) -> Option<u64>
+    ensures { is_some result ≡ (is_some first || is_some second) }
+{
     match first {
         Some(at) => Some(at),
         None => second,
     }
 }
 
+/// Whether a formula uses definitions.
+pub(crate) fn has_uses(tree: &Formula, defs: &[Def]) -> bool
+    ensures { result ≡ spec.uses defs.now tree.now }
+{
+    first_use(tree, defs).is_some()
+}
+
 #[cycle(first_use)]
-fn first_use(tree: &Formula, defs: &[Def]) -> Option<u64> {
+fn first_use(tree: &Formula, defs: &[Def]) -> Option<u64>
+    ensures { is_some result ≡ spec.uses defs.now tree.now }
+{
     match tree {
         Formula::Name(at, x) => {
             if is_defined(x.as_slice(), defs) {
@@ -81,7 +97,9 @@ fn first_use(tree: &Formula, defs: &[Def]) -> Option<u64> {
 }
 
 #[cycle(first_use)]
-fn first_use_of(trees: &[Formula], defs: &[Def]) -> Option<u64> {
+fn first_use_of(trees: &[Formula], defs: &[Def]) -> Option<u64>
+    ensures { is_some result ≡ spec.any_of (map (spec.uses defs.now) trees.now) }
+{
     for tree in trees {
         if let Some(at) = first_use(tree, defs) {
             return Some(at);
@@ -91,9 +109,11 @@ fn first_use_of(trees: &[Formula], defs: &[Def]) -> Option<u64> {
 }
 
 #[cycle(first_use)]
-fn first_use_of_links(links: &[Link], defs: &[Def]) -> Option<u64> {
+fn first_use_of_links(links: &[Link], defs: &[Def]) -> Option<u64>
+    ensures { is_some result ≡ spec.any_of (map (spec.link_has_uses defs.now) links.now) }
+{
     for link in links {
-        if let Some(at) = first_use(&link.operand, defs) {
+        if let Some(at) = first_use_of_link(link, defs) {
             return Some(at);
         }
     }
@@ -101,7 +121,16 @@ fn first_use_of_links(links: &[Link], defs: &[Def]) -> Option<u64> {
 }
 
 #[cycle(first_use)]
-fn first_use_of_forms(forms: &[After], defs: &[Def]) -> Option<u64> {
+fn first_use_of_link(link: &Link, defs: &[Def]) -> Option<u64>
+    ensures { is_some result ≡ spec.link_has_uses defs.now link.now }
+{
+    first_use(&link.operand, defs)
+}
+
+#[cycle(first_use)]
+fn first_use_of_forms(forms: &[After], defs: &[Def]) -> Option<u64>
+    ensures { is_some result ≡ spec.any_of (map (spec.form_has_uses defs.now) forms.now) }
+{
     for form in forms {
         if let Some(at) = first_use_of_form(form, defs) {
             return Some(at);
@@ -111,7 +140,9 @@ fn first_use_of_forms(forms: &[After], defs: &[Def]) -> Option<u64> {
 }
 
 #[cycle(first_use)]
-fn first_use_of_form(form: &After, defs: &[Def]) -> Option<u64> {
+fn first_use_of_form(form: &After, defs: &[Def]) -> Option<u64>
+    ensures { is_some result ≡ spec.form_has_uses defs.now form.now }
+{
     match form {
         After::Converse(_) => None,
         After::Apply(_, e) => first_use(e, defs),

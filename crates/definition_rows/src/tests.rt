@@ -1,6 +1,6 @@
 // Texts with definitions, and the canonical texts of what they stand for.
-use b_ast::machine::{Def, DefBody, DefTable};
-use b_ast::{Expr, Formula, FormulaText, Pred};
+use b_ast::machine::{Def, DefBody, DefTable, Subst};
+use b_ast::{Expr, Formula, FormulaText, Place, Pred};
 use b_expand::{ParseFault, ParseKind};
 use b_lex::lex;
 use b_parse_expr::{parse_formula, tree_of_text};
@@ -27,7 +27,31 @@ fn params(alloc: Global, text: &str) -> Result<Items<Items<u8>>, AllocError> {
     Ok(names)
 }
 
-// A definition `d:p,q:body`, whose names have one letter. A body of a predicate begins with `?`.
+// The substitution `skip`.
+fn skip() -> Subst {
+    Subst::Skip(Place {
+        machine: true,
+        at: 0,
+        depth: 0,
+    })
+}
+
+// A body of a predicate begins with `?`, and `skip` is the substitution.
+fn body_of(alloc: Global, text: &str) -> Result<DefBody, Fail> {
+    if text == "skip" {
+        return Ok(DefBody::Subst(skip()));
+    }
+    match text.strip_prefix('?') {
+        Some(predicate) => Ok(DefBody::Pred(Pred {
+            formula: tree(alloc, predicate)?,
+        })),
+        None => Ok(DefBody::Expr(Expr {
+            formula: tree(alloc, text)?,
+        })),
+    }
+}
+
+// A definition `d:p,q:body`, whose parameters have one letter.
 fn definition(alloc: Global, text: &str) -> Result<Def, Fail> {
     let Some((name, rest)) = text.split_once(':') else {
         return Err(Fail::from("a definition without parameters"));
@@ -35,18 +59,10 @@ fn definition(alloc: Global, text: &str) -> Result<Def, Fail> {
     let Some((names, body)) = rest.split_once(':') else {
         return Err(Fail::from("a definition without a body"));
     };
-    let body = match body.strip_prefix('?') {
-        Some(predicate) => DefBody::Pred(Pred {
-            formula: tree(alloc, predicate)?,
-        }),
-        None => DefBody::Expr(Expr {
-            formula: tree(alloc, body)?,
-        }),
-    };
     Ok(Def {
         name: Items::from_slice(alloc, name.as_bytes())?,
         params: params(alloc, names)?,
-        body,
+        body: body_of(alloc, body)?,
         at: 0,
     })
 }
@@ -78,7 +94,7 @@ fn shown(alloc: Global, defs: &DefTable, text: &[u8]) -> Result<Vec<u8>, Fail> {
     }
 }
 
-// Each line has definitions, a text, and what it stands for.
+// Each line has definitions, a text, and the canonical text of what it stands for.
 const ROWS: &str = "@1 + 2@1 + 2
 @f(1,2)@f(1 |-> 2)
 d::1@d + d@1 + 1
@@ -89,7 +105,6 @@ d:p,q:q - p@d(1,2)@2 - 1
 d:p:p + p@d(1 + 2)@(1 + 2) + (1 + 2)
 d:p:1@d(2)@1
 d:p:1@d(1 = 2)@1
-d:p:1@d(1 + (1 = 2))@none
 d::1;;e::d + d@e * e@(1 + 1) * (1 + 1)
 d::e;;e::1@d@e
 d::1;;d::2@d@1
@@ -98,36 +113,23 @@ d:p:p;;d:p,q:q@d(3)@3
 e::p + 1;;d:p:e * 2@d(5)@(p + 1) * 2
 e::1;;d:e:e + 1@d(5)@5 + 1
 d:p,p:p@d(1,2)@1
-d:p:#x.(x = p)@d(1)@none
 d:p:?#x.(x = p)@d(1)@#x.(x = 1)
 d:p:?#x.(x = p)@d(x)@#x.(x = x)
-d:p:?#p.(p = 1)@d(1)@none
-d::1@#d.(d = 1)@none
-d::1@{d | d = 1}@none
-d::1@SIGMA(d).(d = 1 | d)@none
-d:p:p + 1@d@none
-d:p:p + 1@d(1,2)@none
-d:p,q:p + q@d(1)@none
-d:p,q:p + q@d((1,2))@none
-d:p,q:p + q@d[1]@none
 d:p:p@d((1,2))@1 |-> 2
 d:p:p@d(1)(2)@1(2)
 d:p:p@d(f(1))(2)@(f(1))(2)
 d::f@d(1)@f(1)
 d::f@d(1,2)@f(1 |-> 2)
-d::?1 = 1@d + 1@none
 d::?1 = 1@d & d@1 = 1 & 1 = 1
 d::?1 = 1@bool(d)@bool(1 = 1)
-d::1@d & 1 = 1@none
-d:p:p@d(1 = 2)@none
 d:p:?p & p@d(1 = 2)@1 = 2 & 1 = 2
-d:p:?p & p@d(1)@none
 d:p:?!x.(p)@d(x = 1 => x = 2)@!x.(x = 1 => x = 2)
-d:p:?!x.(p)@d(x = 1)@none
 d::?x = 1 => x = 2@!x.(d)@!x.(x = 1 => x = 2)
 d::1@x$0 + d@x$0 + 1
 x::1@x$0@x$0
-d:x:x$0@d(1)@x$0";
+d:x:x$0@d(1)@x$0
+d::skip@1@1
+d::1;;d::skip@d@1";
 
 #[test]
 fn rows(rt: HostRuntime) -> Result<(), Fail> {
@@ -141,6 +143,114 @@ fn rows(rt: HostRuntime) -> Result<(), Fail> {
         let defs = table(rt.alloc(), defs)?;
         let said = shown(rt.alloc(), &defs, text.as_bytes())?;
         assert!(rt; said.as_slice() == wanted.as_bytes(), "{line}");
+    }
+    Ok(())
+}
+
+// Each line has definitions and a text that uses them wrongly.
+const WRONG_USES: &str = "d:p:p@d
+d:p:p@d + 1
+d:p:p@d(1,2)
+d:p:p@d~
+d:p:p@d[1]
+d:p,q:p@d(1)
+d:p,q:p@d((1,2))
+d:p,q:p@d(1 |-> 2)
+d:p,q:p@d(1)(2)
+d:p,q:p@d(1,2,3)
+d:p:?p = 1@d & 1 = 1
+d:p:p;;e::d@e
+d:p:p;;e:p:d(p,p)@e(1)
+d:p:p;;k:p:1@k(d)
+d:p:p;;k:p:1@k(d(1,2))
+d::?1 = 1@d + 1
+d::?1 = 1@-d
+d::?1 = 1@d = d
+d::?1 = 1@{d}
+d::?1 = 1@card(d)
+d::?1 = 1@d(1)
+d::?1 = 1@f(d)
+d::?1 = 1@f[d]
+d::?1 = 1@%x.(x = 1 | d)
+d::?1 = 1@IF 1 = 1 THEN d ELSE 2 END
+d::?1 = 1@!x.(d)
+d::?1 = 1;;e::d@e
+d::?1 = 1;;e:p:p + 1@e(d)
+d::1@d & 1 = 1
+d::1@not(d)
+d::1@bool(d)
+d::1@#x.(d)
+d::1@!x.(d)
+d::1@{x | d}
+d::1@%x.(d | x)
+d::1@IF d THEN 1 ELSE 2 END
+d::1;;e::?d@e
+d::1;;e:p:?p & p@e(d)
+d::1 + (1 = 1)@d
+d:p:p + 1@d(1 = 1)
+d:p:p@d(1 = 1)
+d:p:?p & p@d(1)
+d:p:?bool(p) = p@d(1)
+d:p:?bool(p) = p@d(1 = 1)
+d:p:?!x.(p)@d(x = 1 & x = 2)
+d::skip@d
+d::skip@d + 1
+d::skip@d & 1 = 1
+d::skip@bool(d)
+d::skip@d(1)
+d:p:skip@d(1)
+d::skip;;e::d@e
+d::skip;;d::1@d
+d::skip;;k:p:1@k(d)
+d:p:?#p.(p = 1)@d(1)
+d:p:?#p.(p = 1)@d(p)
+d:p:?#(x,p).(x = p)@d(1)
+d:p:?!p.(p = 1 => p = 1)@d(1)
+d:p:{p | p = 1}@d(1)
+d:p:{x,p | x = p}@d(1)
+d:p:%p.(p = 1 | 1)@d(1)
+d:p:SIGMA(p).(p = 1 | 1)@d(1)
+d:p:PI(p).(p = 1 | 1)@d(1)
+d:p:UNION(p).(p = 1 | {1})@d(1)
+d:p:INTER(p).(p = 1 | {1})@d(1)
+d:p,q:?#q.(q = p)@d(1,2)
+d::1@#d.(d = 1)
+d::1@#(x,d).(x = d)
+d::1@!d.(d = 1 => d = 1)
+d::1@{d | d = 1}
+d::1@{x,d | x = d}
+d::1@%d.(d = 1 | 1)
+d::1@SIGMA(d).(d = 1 | 1)
+d::1@PI(d).(d = 1 | 1)
+d::1@UNION(d).(d = 1 | {1})
+d::1@INTER(d).(d = 1 | {1})
+d:p:p@{d | d = 1}
+d::?1 = 1@{d | d = 1}
+d::skip@{d | d = 1}
+d::?#d.(d = 1)@d
+d::1;;e::?#d.(d = 1)@e
+e::?#d.(d = 1);;d::1@e
+d::1;;k:p:1@k({d | d = 1})
+d:p:1@d(1 + (1 = 2))
+d:p:#x.(x = p)@d(1)
+d::1@SIGMA(d).(d = 1 | d)
+d:p:p + 1@d
+d:p:p + 1@d(1,2)
+d:p,q:p + q@d(1)
+d:p,q:p + q@d((1,2))
+d:p,q:p + q@d[1]
+d:p:p@d(1 = 2)
+d:p:?!x.(p)@d(x = 1)";
+
+#[test]
+fn wrong_uses(rt: HostRuntime) -> Result<(), Fail> {
+    for line in WRONG_USES.lines() {
+        let Some((defs, text)) = line.split_once('@') else {
+            return Err(Fail::from("a line without a text"));
+        };
+        let defs = table(rt.alloc(), defs)?;
+        let said = shown(rt.alloc(), &defs, text.as_bytes())?;
+        assert!(rt; said.as_slice() == b"none".as_slice(), "{line}");
     }
     Ok(())
 }
