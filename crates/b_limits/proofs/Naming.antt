@@ -3,12 +3,13 @@ use borrow.Author.Tests.{ltb-false, ltb-true}
 use Rattle.std.proofs.Common.{◌≡◌, ℕ, zero, suc, ◌+◌, ◌<◌, ◌≤◌, Bool, true, false, not, cond, List, [], ◌∷◌, take, length, map, fold, rules, Option, Some, None, refl, sym, ap, ◌∙◌, subst, arith}
 use Rattle.std.specs.Prelude.{IsSome, IfSome, IfOk, Result, slice_get, option_map, option_and_then, bytes_eq, position, nat_lt, min}
 use Rattle.std.specs.List.{position_or_len, prefix_len}
+use Rattle.b_ast.specs.declared.Formula.{Formula}
 use Rattle.b_ast.specs.declared.machine.Def.{Def}
 use Rattle.b_expand.specs.Expansion.{both, all_of}
 use Rattle.b_limits.specs.declared.facts.Facts.{Facts}
 use Rattle.b_limits.specs.declared.facts.FormFacts.{FormFacts}
 use Rattle.b_limits.specs.Standing.{place_below}
-use Rattle.b_limits.specs.Measured.{Scope, Meaning, Meanings, Reading, Form, Measures, sorted, used_with, row_of, applied, plain_row, row, forms, first_arguments, later_forms, first_of, with_definition, meaning_of, meanings}
+use Rattle.b_limits.specs.Measured.{Scope, Meaning, Meanings, Reading, Form, Measures, sorted, used_with, row_of, applied, plain_row, row, forms, first_arguments, later_forms, first_of, with_definition, meaning_of, meanings, alone, measure, measured}
 
 -- what a name means stays
 keeps : (table : List Def) (m : Meanings) (ds : List Def) (x : List ℕ) (u : Meaning) → m x ≡ Some u → fold (with_definition table) m ds x ≡ Some u
@@ -188,3 +189,14 @@ row_used m k depth s r fs gs args e g es h used u rest q o i =
 -- a row whose head means a definition, and which begins without arguments, stays a row
 pub row_left : {E : Type 0} (m : Option Meaning) (depth : ℕ) (s : Scope) (r : Reading) (fs : List Form) → first_arguments fs ≡ None → (res : Result (Option Facts) E) → IfOk res (λ o. o ≡ plain_row r fs s) → IfOk res (λ o. o ≡ row (option_map (λ m. (depth, m)) m) r fs s)
 row_left m depth s r fs e res i = subst (λ (z : Option Facts). IfOk res (λ o. o ≡ z)) (sym (row_stays m depth s r fs e)) i
+
+-- all first ones are all
+take_all : (ds : List Def) → take (length ds) ds ≡ ds
+take_all [] = refl
+take_all (d ∷ ds) = ap (λ (xs : List Def). d ∷ xs) (take_all ds)
+
+-- what is measured with the whole table known is what the formula stands for
+pub whole_text : {E : Type 0} (table ds : List Def) → table ≡ ds → (t : Formula) (res : Result (Option Facts) E) → IfOk res (λ o. o ≡ measured table (meanings table (take (length table) table)) alone t) → IfOk res (λ o. o ≡ measure ds t)
+whole_text table ds same t res i =
+    let whole : measured table (meanings table (take (length table) table)) alone t ≡ measure ds t = ap (λ (ks : List Def). measured table (meanings table ks) alone t) (take_all table) ∙ ap (λ (ks : List Def). measure ks t) same in
+    subst (λ (z : Option Facts). IfOk res (λ o. o ≡ z)) whole i
