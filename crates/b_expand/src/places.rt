@@ -2,14 +2,24 @@
 ghost use Rattle.std.specs.Prelude.{◌≡◌, ◌||◌, is_some, map};
 ghost use Rattle.b_expand.specs.Using as spec;
 
+use b_ast::machine::Def;
 use b_ast::{After, Formula, Link};
-use b_names::Index;
+use b_names::{Index, index_of};
+use std::alloc::Global;
 
-/// The byte of the first use of a definition in a formula, or of the formula itself.
-pub fn refused_at(formula: &Formula, index: &Index) -> u64 {
-    match first_use(formula, index) {
+/// The byte of the first use of a definition of a table in a formula, or of the formula itself; where memory for an index of
+/// the table is wanting, of the formula itself.
+pub fn refused_at(alloc: Global, formula: &Formula, defs: &[Def]) -> u64 {
+    match first_used(alloc, formula, defs) {
         Some(at) => at,
         None => first_byte(formula),
+    }
+}
+
+fn first_used(alloc: Global, formula: &Formula, defs: &[Def]) -> Option<u64> {
+    match index_of(alloc, defs) {
+        Ok(index) => first_use(formula, &index),
+        Err(_) => None,
     }
 }
 

@@ -1,13 +1,15 @@
 -- Of two definitions of one name the first counts.
-use borrow.Author.Tests.{ltb-false}
+use borrow.Author.Tests.{ltb-false, ltb-true}
 use Rattle.std.proofs.Common.{◌≡◌, ℕ, zero, suc, ◌+◌, ◌<◌, ◌≤◌, Bool, true, false, not, cond, List, [], ◌∷◌, take, length, map, fold, rules, Option, Some, None, refl, sym, ap, ◌∙◌, subst, arith}
-use Rattle.std.specs.Prelude.{IsSome, IfSome, IfOk, Result, slice_get, option_map, option_and_then, bytes_eq, position, nat_lt}
+use Rattle.std.specs.Prelude.{IsSome, IfSome, IfOk, Result, slice_get, option_map, option_and_then, bytes_eq, position, nat_lt, min}
 use Rattle.std.specs.List.{position_or_len, prefix_len}
+use Rattle.b_ast.specs.declared.Formula.{Formula}
 use Rattle.b_ast.specs.declared.machine.Def.{Def}
 use Rattle.b_expand.specs.Expansion.{both, all_of}
 use Rattle.b_limits.specs.declared.facts.Facts.{Facts}
 use Rattle.b_limits.specs.declared.facts.FormFacts.{FormFacts}
-use Rattle.b_limits.specs.Measured.{Scope, Meaning, Meanings, Reading, Form, Measures, sorted, used_with, row_of, applied, plain_row, row, forms, first_arguments, later_forms, first_of, with_definition, meaning_of, meanings}
+use Rattle.b_limits.specs.Standing.{place_below}
+use Rattle.b_limits.specs.Measured.{Scope, Meaning, Meanings, Reading, Form, Measures, sorted, used_with, row_of, applied, plain_row, row, forms, first_arguments, later_forms, first_of, with_definition, meaning_of, meanings, alone, measure, measured}
 
 -- what a name means stays
 keeps : (table : List Def) (m : Meanings) (ds : List Def) (x : List ℕ) (u : Meaning) → m x ≡ Some u → fold (with_definition table) m ds x ≡ Some u
@@ -75,9 +77,55 @@ means_known : (table : List Def) (k : ℕ) (x : List ℕ) (o : Option ℕ) → o
 means_known table k x None e h = means_at_place table (take k table) x None e
 means_known table k x (Some i) e h = sym (known_meaning table (λ y. None) table k i h) ∙ means_at_place table (take k table) x (Some i) e
 
+-- the first definition of a name among so many first ones
+first_taken : (ds : List Def) (x : List ℕ) (k : ℕ) → first_place (take k ds) x ≡ min k (first_place ds x)
+first_taken ds x zero = omega arith
+first_taken [] x (suc k) = omega arith
+first_taken (d ∷ ds) x (suc k) = by_test (first_taken ds x k) (bytes_eq x d.name) refl
+  where
+    by_test : first_place (take k ds) x ≡ min k (first_place ds x) → (b : Bool) → bytes_eq x d.name ≡ b → first_place (d ∷ take k ds) x ≡ min (suc k) (first_place (d ∷ ds) x)
+    by_test h true e = let m = first_true d (take k ds) x e in let n = first_true d ds x e in omega arith
+    by_test h false e = let m = first_false d (take k ds) x e in let n = first_false d ds x e in omega arith
+
+-- so many first ones are so many, if there are
+length_taken : (ds : List Def) (k : ℕ) → length (take k ds) ≡ min k (length ds)
+length_taken ds zero = omega arith
+length_taken [] (suc k) = omega arith
+length_taken (d ∷ ds) (suc k) = let h = length_taken ds k in omega arith
+
+-- a place among so many first ones, from the place among all
+taken_cases : (n l k m o : ℕ) → m ≡ min k n → o ≡ min k l → (b c d : Bool) → nat_lt n l ≡ b → nat_lt n k ≡ c → nat_lt m o ≡ d → option_and_then (λ i. cond (nat_lt i k) (Some i) None) (cond b (Some n) None) ≡ cond d (Some m) None
+taken_cases n l k m o e f false c false p q r = refl
+taken_cases n l k m o e f false c true p q r = let a = ltb-false n l p in let b = ltb-true m o r in absurd (omega arith)
+taken_cases n l k m o e f true false false p q r = ap (λ (b : Bool). cond b (Some n) None) q
+taken_cases n l k m o e f true false true p q r = let a = ltb-false n k q in let b = ltb-true m o r in absurd (omega arith)
+taken_cases n l k m o e f true true false p q r = let a = ltb-true n l p in let b = ltb-true n k q in let g = ltb-false m o r in absurd (omega arith)
+taken_cases n l k m o e f true true true p q r = let b = ltb-true n k q in let same : n ≡ m = omega arith in ap (λ (b : Bool). cond b (Some n) None) q ∙ ap Some same
+
+-- so is the place of a name
+place_taken : (table : List Def) (k : ℕ) (x : List ℕ) → place_below k (position (λ d. bytes_eq x d.name) table) ≡ position (λ d. bytes_eq x d.name) (take k table)
+place_taken table k x = taken_cases (first_place table x) (length table) k (first_place (take k table) x) (length (take k table)) (first_taken table x k) (length_taken table k) (nat_lt (first_place table x) (length table)) (nat_lt (first_place table x) k) (nat_lt (first_place (take k table) x) (length (take k table))) refl refl refl
+
+-- a place that is found lies within the list
+found_within : (n l : ℕ) (b : Bool) → nat_lt n l ≡ b → IfSome (cond b (Some n) None) (λ i. i < l)
+found_within n l true e = ltb-true n l e
+found_within n l false e = tt
+
+-- a name's place lies within the table
+place_within : (ds : List Def) (x : List ℕ) → IfSome (position (λ d. bytes_eq x d.name) ds) (λ i. i < length ds)
+place_within ds x = found_within (first_place ds x) (length ds) (nat_lt (first_place ds x) (length ds)) refl
+
+-- the place that a text may use is one among the definitions that it may use
+known_taken : (table : List Def) (k : ℕ) (x : List ℕ) (o : Option ℕ) → o ≡ position (λ d. bytes_eq x d.name) table → (r : Option ℕ) → r ≡ place_below k o → r ≡ position (λ d. bytes_eq x d.name) (take k table)
+known_taken table k x o e r h = h ∙ (ap (place_below k) e ∙ place_taken table k x)
+
+-- and it lies among them
+known_within : (table : List Def) (k : ℕ) (x : List ℕ) (r : Option ℕ) → r ≡ position (λ d. bytes_eq x d.name) (take k table) → IfSome r (λ i. i < length (take k table))
+known_within table k x r h = subst (λ (o : Option ℕ). IfSome o (λ i. i < length (take k table))) (sym h) (place_within (take k table) x)
+
 -- a name means the definition at its place among those that a text may use
-pub means_where : (table : List Def) (k : ℕ) (x : List ℕ) (ds : List Def) → ds ≡ take k table → (o : Option ℕ) → o ≡ position (λ d. bytes_eq x d.name) ds → IfSome o (λ i. i < length ds) → option_and_then (meaning_from table (λ y. None) table) o ≡ meanings table (take k table) x
-means_where table k x ds e o h w = means_known table k x o (h ∙ ap (position (λ d. bytes_eq x d.name)) e) (subst (λ (xs : List Def). IfSome o (λ i. i < length xs)) e w)
+pub means_where : (table : List Def) (k : ℕ) (x : List ℕ) (o : Option ℕ) → o ≡ position (λ d. bytes_eq x d.name) table → (r : Option ℕ) → r ≡ place_below k o → option_and_then (meaning_from table (λ y. None) table) r ≡ meanings table (take k table) x
+means_where table k x o e r h = means_known table k x r (known_taken table k x o e r h) (known_within table k x r (known_taken table k x o e r h))
 
 below_known : (xs : List Def) (k i : ℕ) → i < length (take k xs) → i < k
 below_known xs zero i h = absurd (omega arith)
@@ -91,14 +139,22 @@ in_table [] (suc k) i h = h
 in_table (x ∷ xs) (suc k) zero h = omega arith
 in_table (x ∷ xs) (suc k) (suc i) h = let m = in_table xs k i (omega arith) in omega arith
 
--- a place among the definitions that a text may use is below their number, and in the table
-pub all_below : (table : List Def) (k : ℕ) (ds : List Def) → ds ≡ take k table → (o : Option ℕ) → IfSome o (λ i. i < length ds) → IfSome o (λ i. i < k)
-all_below table k ds e None h = tt
-all_below table k ds e (Some i) h = below_known table k i (subst (λ (xs : List Def). i < length xs) e h)
+-- such a place is below their number
+below_in : (table : List Def) (k : ℕ) (r : Option ℕ) → IfSome r (λ i. i < length (take k table)) → IfSome r (λ i. i < k)
+below_in table k None h = tt
+below_in table k (Some i) h = below_known table k i h
 
-pub all_within : (table : List Def) (k : ℕ) (ds : List Def) → ds ≡ take k table → (o : Option ℕ) → IfSome o (λ i. i < length ds) → IfSome o (λ i. i < length table)
-all_within table k ds e None h = tt
-all_within table k ds e (Some i) h = in_table table k i (subst (λ (xs : List Def). i < length xs) e h)
+-- and within the table
+within_in : (table : List Def) (k : ℕ) (r : Option ℕ) → IfSome r (λ i. i < length (take k table)) → IfSome r (λ i. i < length table)
+within_in table k None h = tt
+within_in table k (Some i) h = in_table table k i h
+
+-- a place among the definitions that a text may use is below their number, and in the table
+pub all_below : (table : List Def) (k : ℕ) (x : List ℕ) (o : Option ℕ) → o ≡ position (λ d. bytes_eq x d.name) table → (r : Option ℕ) → r ≡ place_below k o → IfSome r (λ i. i < k)
+all_below table k x o e r h = below_in table k r (known_within table k x r (known_taken table k x o e r h))
+
+pub all_within : (table : List Def) (k : ℕ) (x : List ℕ) (o : Option ℕ) → o ≡ position (λ d. bytes_eq x d.name) table → (r : Option ℕ) → r ≡ place_below k o → IfSome r (λ i. i < length table)
+all_within table k x o e r h = within_in table k r (known_within table k x r (known_taken table k x o e r h))
 
 -- what stands at a place of the table means something
 pub meant : (f : Def → Meaning) (ds : List Def) (i : ℕ) → i < length ds → IsSome (option_map f (slice_get ds i))
@@ -133,3 +189,14 @@ row_used m k depth s r fs gs args e g es h used u rest q o i =
 -- a row whose head means a definition, and which begins without arguments, stays a row
 pub row_left : {E : Type 0} (m : Option Meaning) (depth : ℕ) (s : Scope) (r : Reading) (fs : List Form) → first_arguments fs ≡ None → (res : Result (Option Facts) E) → IfOk res (λ o. o ≡ plain_row r fs s) → IfOk res (λ o. o ≡ row (option_map (λ m. (depth, m)) m) r fs s)
 row_left m depth s r fs e res i = subst (λ (z : Option Facts). IfOk res (λ o. o ≡ z)) (sym (row_stays m depth s r fs e)) i
+
+-- all first ones are all
+take_all : (ds : List Def) → take (length ds) ds ≡ ds
+take_all [] = refl
+take_all (d ∷ ds) = ap (λ (xs : List Def). d ∷ xs) (take_all ds)
+
+-- what is measured with the whole table known is what the formula stands for
+pub whole_text : {E : Type 0} (table ds : List Def) → table ≡ ds → (t : Formula) (res : Result (Option Facts) E) → IfOk res (λ o. o ≡ measured table (meanings table (take (length table) table)) alone t) → IfOk res (λ o. o ≡ measure ds t)
+whole_text table ds same t res i =
+    let whole : measured table (meanings table (take (length table) table)) alone t ≡ measure ds t = ap (λ (ks : List Def). measured table (meanings table ks) alone t) (take_all table) ∙ ap (λ (ks : List Def). measure ks t) same in
+    subst (λ (z : Option Facts). IfOk res (λ o. o ≡ z)) whole i

@@ -1,6 +1,6 @@
 -- The verdict on a tree from what is known of it.
 use Rattle.std.proofs.Common.{◌≡◌, ℕ, rules, Bool, true, false, cond, List, Option, Some, None, refl, sym, ap, ◌∙◌, subst, arith}
-use Rattle.std.specs.Prelude.{nat_lt, Result, Ok, Err, IsSome, option_map}
+use Rattle.std.specs.Prelude.{nat_lt, Result, Ok, Err, IfOk, IsSome, option_map}
 use Rattle.std.proofs.lemmas.Bool.Decides.{nat_tests}
 use Rattle.b_ast.specs.declared.Sort.{Sort}
 use Rattle.b_ast.specs.declared.machine.Def.{Def}
@@ -59,3 +59,8 @@ is_there table t facts h s e = go (expansion table t) (e ∙ ap verdict_of (h �
     go : (o : Option Formula) → Ok s ≡ verdict_of (option_map facts_of o) → IsSome o
     go None k = absurd (cc)
     go (Some w) k = search rules
+
+-- what a walk finds is known of the expanded tree
+pub walk_tells : {E : Type 0} (table : List Def) (t : Formula) (res : Result (Option Facts) E) → IfOk res (λ o. o ≡ measure table t) → IfOk res (λ o. o ≡ option_map facts_of (expansion table t))
+walk_tells table t (Ok o) h = h ∙ measure_tells table t
+walk_tells table t (Err e) h = tt

@@ -6,6 +6,8 @@ use Rattle.std.specs.Cmp.Lexicographic.{pointwise}
 use Rattle.b_ast.specs.declared.Sort.{Sort}
 use Rattle.b_ast.specs.declared.Sort.TheVariants as sort
 use Rattle.b_ast.specs.declared.machine.Def.{Def}
+use Rattle.b_names.specs.declared.places.Index.{Index}
+use Rattle.b_names.specs.Index.{IsIndexOf}
 use Rattle.b_limits.specs.declared.facts.Facts.{Facts}
 use Rattle.b_limits.specs.Standing.{meaning_in, used_at}
 
@@ -31,3 +33,7 @@ use_key i round fs = i ∷ round ∷ facts_key fs
 -- whatever is remembered at the numbers of a use is what the use gives
 unfoldable pub IsRight : {S Z : Type 0} → List Def → HashMap (Vec ℕ Z) (Option Facts) S → Type 0
 IsRight {S} {Z} table m = (k : Vec ℕ Z) (i round : ℕ) (fs : List Facts) → k.items ≡ use_key i round fs → (v : Option Facts) → get (λ x y. pointwise nat_eq x.items y.items) m k ≡ Some v → v ≡ found_in table i round fs
+
+-- the index answers for every name as a search through the table does
+unfoldable pub IsIndexed : List Def → Index → Type 0
+IsIndexed table index = IsIndexOf table index

@@ -40,6 +40,10 @@ scope_of t = record { round = t.round; params = t.params.now; facts = t.facts.no
 abbrev pub means_in : Measuring → Meanings
 means_in t = spec.meanings t.table.now (take t.known t.table.now)
 
+-- the place, where it is one of so many first ones
+abbrev pub place_below : ℕ → Option ℕ → Option ℕ
+place_below k o = option_and_then (λ i. if nat_lt i k then Some i else None) o
+
 -- the meaning of the definition at a place of a table, which may use those before it
 abbrev pub meaning_in : List Def → ℕ → Option Meaning
 meaning_in table i = option_map (λ d. spec.meaning_of table (spec.meanings table (take i table)) d.params d.body) (slice_get table i)

@@ -1,10 +1,12 @@
 //! Formulas expanded within the limits: what the expanded tree would be is found first, and it is built only where it is a text.
 #![tactic(auto)]
 
-ghost use Rattle.std.specs.Prelude.{◌≡◌, IfOk, IsSome};
+ghost use Rattle.std.specs.Prelude.{◌≡◌, IfOk, IsSome, option_map};
 ghost use Rattle.b_expand.specs.Answers as answers;
 ghost use Rattle.b_expand.specs.Expansion.{expansion};
+ghost use Rattle.b_limits.specs.Facts.{facts_of};
 ghost use Rattle.b_limits.specs.Measured.{measure};
+ghost use Rattle.b_limits.specs.Memory.{IsIndexed};
 ghost use Rattle.b_limits.specs.Standing.{limited, verdict_of, text_by};
 
 mod facts;
@@ -14,10 +16,11 @@ mod parts;
 mod sorts;
 mod sums;
 
-use b_ast::machine::DefTable;
+use b_ast::machine::{Def, DefTable};
 use b_ast::{Expr, Formula, FormulaText, Pred, Sort};
 use b_expand::places::refused_at;
 use b_expand::{Unexpanded, Unfit, expanded};
+use b_names::{Index, index_of};
 pub use facts::{Facts, FormFacts, LinkFacts};
 use measuring::{Measuring, walk};
 use memory::nothing;
@@ -37,11 +40,24 @@ pub fn measured(
     defs: &DefTable,
     formula: &Formula,
 ) -> Result<Option<Facts>, AllocError>
+    ensures { IfOk result (λ o. o ≡ option_map facts_of (expansion defs.now.defs formula.now)) }
+{
+    walked(alloc, defs, formula)
+}
+
+// What a walk through a formula finds.
+fn walked(
+    alloc: Global,
+    defs: &DefTable,
+    formula: &Formula,
+) -> Result<Option<Facts>, AllocError>
     ensures { IfOk result (λ o. o ≡ measure defs.now.defs formula.now) }
 {
     let table = defs.defs.as_slice();
+    let index = indexed(alloc, table)?;
     let text = Measuring {
         table,
+        index: &index,
         known: table.len(),
         round: 0,
         params: &[],
@@ -51,16 +67,25 @@ pub fn measured(
     walk(formula, alloc, &mut memory, &text)
 }
 
+// The index of the names of a table.
+fn indexed(alloc: Global, table: &[Def]) -> Result<Index, AllocError>
+    ensures { IfOk result (IsIndexed table.now) }
+{
+    index_of(alloc, table)
+}
+
 /// The text that a formula is once its definitions are expanded, as an expression or a predicate by its sort. A refusal
 /// has a place of the formula. The expanded tree is built only where it is within the limits.
 pub fn expand(alloc: Global, defs: &DefTable, formula: &Formula) -> Result<FormulaText, Unexpanded>
     ensures { answers.AnswersFormula defs.now.defs formula.now result }
 {
-    let at = refused_at(formula, defs.defs.as_slice());
-    match measured(alloc, defs, formula) {
+    match walked(alloc, defs, formula) {
         Ok(facts) => match verdict(facts) {
             Ok(sort) => built(alloc, defs, formula, sort),
-            Err(why) => Err(Unexpanded::Refused(why, at)),
+            Err(why) => Err(Unexpanded::Refused(
+                why,
+                refused_at(alloc, formula, defs.defs.as_slice()),
+            )),
         },
         Err(_) => Err(Unexpanded::Memory),
     }

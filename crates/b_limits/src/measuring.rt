@@ -1,12 +1,12 @@
 //! The facts of the trees that texts with definitions stand for.
-ghost use Rattle.std.specs.Prelude.{◌≡◌, [], ◌∷◌, ◌+◌, ◌<◌, ◌≤◌, ◌==◌, not, length, map, sum, take, Option, Some, None, IfOk, IfSome, IsSome, MatchOption, is_some, position, bytes_eq, option_and_then, option_map};
+ghost use Rattle.std.specs.Prelude.{◌≡◌, [], ◌∷◌, ◌+◌, ◌<◌, ◌≤◌, ◌==◌, not, length, map, sum, Option, Some, None, IfOk, IfSome, IsSome, MatchOption, is_some, position, bytes_eq, option_and_then, option_map};
 ghost use Rattle.std.specs.List.{list_all};
 ghost use Rattle.b_expand.specs.Expansion.{all_of};
 ghost use Rattle.b_expand.specs.Places as places;
 ghost use Rattle.b_expand.specs.Places.{node_total, nodes_of_link, nodes_of_after};
 ghost use Rattle.b_limits.specs.Measured as spec;
-ghost use Rattle.b_limits.specs.Memory.{IsRight, found_in};
-ghost use Rattle.b_limits.specs.Standing.{scope_of, means_in, meaning_at, reading_in, form_in, side_in, facts_in, all_in, links_in, forms_in, called_in, row_in, plain_row_in, arguments_in, operands_in, used_in, definition_in, body_in};
+ghost use Rattle.b_limits.specs.Memory.{IsIndexed, IsRight, found_in};
+ghost use Rattle.b_limits.specs.Standing.{scope_of, means_in, meaning_at, place_below, reading_in, form_in, side_in, facts_in, all_in, links_in, forms_in, called_in, row_in, plain_row_in, arguments_in, operands_in, used_in, definition_in, body_in};
 
 use crate::facts::{Facts, FormFacts, LinkFacts};
 use crate::memory::{Memory, key_of, recalled, remember};
@@ -14,6 +14,7 @@ use crate::parts;
 use crate::sums::{brackets, deeper_place};
 use b_ast::machine::{Def, DefBody};
 use b_ast::{After, Bound, Formula, Link, Place, Sort};
+use b_names::Index;
 use sqlite_items::Items;
 use std::alloc::{AllocError, Global};
 
@@ -22,6 +23,8 @@ use std::alloc::{AllocError, Global};
 pub struct Measuring<'a> {
     /// The whole table.
     pub table: &'a [Def],
+    /// The index of the whole table.
+    pub index: &'a Index,
     /// How many of its first definitions the text may use.
     pub known: usize,
     /// How many brackets are open round the text.
@@ -33,11 +36,22 @@ pub struct Measuring<'a> {
 
 // ---- names
 
-fn definition_of(defs: &[Def], name: &[u8]) -> Option<usize>
-    ensures value { result ≡ position (λ d. bytes_eq name.now d.name) defs.now }
-    ensures within { IfSome result (λ i. i < length defs.now) }
+// The place of the first definition of a name in the whole table.
+fn definition_of(text: &Measuring<'_>, name: &[u8]) -> Option<usize>
+    requires { IsIndexed text.now.table.now text.now.index.now }
+    ensures { result ≡ position (λ d. bytes_eq name.now d.name) text.now.table.now }
 {
-    defs.iter().position(|def| name == def.name.as_slice())
+    text.index.first(name)
+}
+
+// The place, where it is one of so many first ones.
+fn known_place(place: Option<usize>, known: usize) -> Option<usize>
+    ensures { result ≡ place_below known place }
+{
+    match place {
+        Some(i) => { if i < known { Some(i) } else { None } }
+        None => None,
+    }
 }
 
 fn place_of(names: &[Items<u8>], name: &[u8]) -> Option<usize>
@@ -56,10 +70,11 @@ fn facts_of(text: &Measuring<'_>, name: &[u8]) -> Option<Facts>
 }
 
 fn may_bind(text: &Measuring<'_>, name: &Bound) -> bool
+    requires { IsIndexed text.now.table.now text.now.index.now }
     ensures { result ≡ spec.may_bind text.now.table.now (scope_of text.now) name.now }
 {
     let name = name.name.as_slice();
-    definition_of(text.table, name).is_none() && place_of(text.params, name).is_none()
+    definition_of(text, name).is_none() && place_of(text.params, name).is_none()
 }
 
 // Whether commas alone stand in a chain.
@@ -76,6 +91,7 @@ fn are_commas(links: &[Link], text: &Measuring<'_>) -> bool
 }
 
 fn may_bind_all(text: &Measuring<'_>, names: &[Bound]) -> bool
+    requires { IsIndexed text.now.table.now text.now.index.now }
     ensures { result ≡ list_all (spec.may_bind text.now.table.now (scope_of text.now)) names.now }
 {
     for name in names {
@@ -86,25 +102,14 @@ fn may_bind_all(text: &Measuring<'_>, names: &[Bound]) -> bool
     true
 }
 
-// The definitions that a text may use.
-fn known_definitions<'a>(text: &Measuring<'a>) -> &'a [Def]
-    ensures { result.now ≡ take text.now.known text.now.table.now }
-{
-    let table = text.table;
-    if text.known < table.len() {
-        &table[..text.known]
-    } else {
-        table
-    }
-}
-
 // The definition that a name means in a text.
 fn meaning_of(text: &Measuring<'_>, name: &[u8]) -> Option<usize>
+    requires { IsIndexed text.now.table.now text.now.index.now }
     ensures value { option_and_then (meaning_at text.now) result ≡ means_in text.now name.now }
     ensures within { IfSome result (λ i. i < text.now.known) }
     ensures known { IfSome result (λ i. IsSome (meaning_at text.now i)) }
 {
-    definition_of(known_definitions(text), name)
+    known_place(definition_of(text, name), text.known)
 }
 
 // Whether a definition has parameters.
@@ -119,6 +124,7 @@ fn has_params(text: &Measuring<'_>, i: usize) -> bool
 
 // The definition with parameters that the head of a row names, with the depth of the name's place.
 fn called(head: &Formula, text: &Measuring<'_>) -> Option<(u64, usize)>
+    requires { IsIndexed text.now.table.now text.now.index.now }
     ensures value { option_and_then (λ c. option_map (λ m. (c.0, m)) (meaning_at text.now c.1)) result ≡ called_in text.now head.now }
     ensures within { IfSome result (λ c. c.1 < text.now.known) }
     ensures known { IfSome result (λ c. IsSome (meaning_at text.now c.1)) }
@@ -226,6 +232,7 @@ pub fn walk(
     text: &Measuring<'_>,
 ) -> Result<Option<Facts>, AllocError>
     requires right { IsRight text.now.table.now memory.old }
+    requires indexed { IsIndexed text.now.table.now text.now.index.now }
     ensures value { IfOk result (λ o. o ≡ facts_in text.now tree.now) }
     ensures right { IsRight text.now.table.now memory.new }
 {
@@ -295,6 +302,7 @@ fn walk_all(
     text: &Measuring<'_>,
 ) -> Result<Option<Items<Facts>>, AllocError>
     requires right { IsRight text.now.table.now memory.old }
+    requires indexed { IsIndexed text.now.table.now text.now.index.now }
     ensures value { IfOk result (λ o. o ≡ all_in text.now trees.now) }
     ensures right { IsRight text.now.table.now memory.new }
 {
@@ -315,6 +323,7 @@ fn walk_links(
     text: &Measuring<'_>,
 ) -> Result<Option<Items<LinkFacts>>, AllocError>
     requires right { IsRight text.now.table.now memory.old }
+    requires indexed { IsIndexed text.now.table.now text.now.index.now }
     ensures value { IfOk result (λ o. o ≡ links_in text.now links.now) }
     ensures right { IsRight text.now.table.now memory.new }
 {
@@ -334,6 +343,7 @@ fn walk_link(
     text: &Measuring<'_>,
 ) -> Result<Option<LinkFacts>, AllocError>
     requires right { IsRight text.now.table.now memory.old }
+    requires indexed { IsIndexed text.now.table.now text.now.index.now }
     ensures value { IfOk result (λ o. o ≡ (side_in text.now link.now).link (scope_of text.now)) }
     ensures right { IsRight text.now.table.now memory.new }
 {
@@ -350,6 +360,7 @@ fn walk_operand(
     text: &Measuring<'_>,
 ) -> Result<Option<Facts>, AllocError>
     requires right { IsRight text.now.table.now memory.old }
+    requires indexed { IsIndexed text.now.table.now text.now.index.now }
     ensures value { IfOk result (λ o. o ≡ spec.sorted ((side_in text.now link.now).operand (scope_of text.now))) }
     ensures right { IsRight text.now.table.now memory.new }
 {
@@ -366,6 +377,7 @@ fn walk_forms(
     text: &Measuring<'_>,
 ) -> Result<Option<Items<FormFacts>>, AllocError>
     requires right { IsRight text.now.table.now memory.old }
+    requires indexed { IsIndexed text.now.table.now text.now.index.now }
     ensures value { IfOk result (λ o. o ≡ forms_in text.now forms.now) }
     ensures right { IsRight text.now.table.now memory.new }
 {
@@ -385,6 +397,7 @@ fn walk_form(
     text: &Measuring<'_>,
 ) -> Result<Option<FormFacts>, AllocError>
     requires right { IsRight text.now.table.now memory.old }
+    requires indexed { IsIndexed text.now.table.now text.now.index.now }
     ensures value { IfOk result (λ o. o ≡ (form_in text.now form.now).form (scope_of text.now)) }
     ensures right { IsRight text.now.table.now memory.new }
 {
@@ -410,6 +423,7 @@ fn walk_name(
     text: &Measuring<'_>,
 ) -> Result<Option<Facts>, AllocError>
     requires right { IsRight text.now.table.now memory.old }
+    requires indexed { IsIndexed text.now.table.now text.now.index.now }
     ensures value { IfOk result (λ o. o ≡ spec.named (means_in text.now name.now) (spec.facts_at (scope_of text.now) name.now) (scope_of text.now) at name.now) }
     ensures right { IsRight text.now.table.now memory.new }
 {
@@ -431,6 +445,7 @@ fn walk_row(
     text: &Measuring<'_>,
 ) -> Result<Option<Facts>, AllocError>
     requires right { IsRight text.now.table.now memory.old }
+    requires indexed { IsIndexed text.now.table.now text.now.index.now }
     ensures value { IfOk result (λ o. o ≡ row_in text.now head.now forms.now) }
     ensures right { IsRight text.now.table.now memory.new }
 {
@@ -454,6 +469,7 @@ fn walk_called(
     requires within { i < text.now.known }
     requires known { IsSome (meaning_at text.now i) }
     requires right { IsRight text.now.table.now memory.old }
+    requires indexed { IsIndexed text.now.table.now text.now.index.now }
     ensures value { IfOk result (λ o. o ≡ spec.row (option_map (λ m. (depth, m)) (meaning_at text.now i)) (reading_in text.now head.now) (map (form_in text.now) forms.now) (scope_of text.now)) }
     ensures right { IsRight text.now.table.now memory.new }
 {
@@ -477,6 +493,7 @@ fn walk_plain_row(
     text: &Measuring<'_>,
 ) -> Result<Option<Facts>, AllocError>
     requires right { IsRight text.now.table.now memory.old }
+    requires indexed { IsIndexed text.now.table.now text.now.index.now }
     ensures value { IfOk result (λ o. o ≡ plain_row_in text.now head.now forms.now) }
     ensures right { IsRight text.now.table.now memory.new }
 {
@@ -494,6 +511,7 @@ fn walk_arguments(
     text: &Measuring<'_>,
 ) -> Result<Option<Items<Facts>>, AllocError>
     requires right { IsRight text.now.table.now memory.old }
+    requires indexed { IsIndexed text.now.table.now text.now.index.now }
     ensures value { IfOk result (λ o. o ≡ arguments_in text.now tree.now) }
     ensures right { IsRight text.now.table.now memory.new }
 {
@@ -519,6 +537,7 @@ fn walk_operands(
     text: &Measuring<'_>,
 ) -> Result<Option<Items<Facts>>, AllocError>
     requires right { IsRight text.now.table.now memory.old }
+    requires indexed { IsIndexed text.now.table.now text.now.index.now }
     ensures value { IfOk result (λ o. o ≡ operands_in text.now links.now) }
     ensures right { IsRight text.now.table.now memory.new }
 {
@@ -541,6 +560,7 @@ fn walk_used(
 ) -> Result<Option<Facts>, AllocError>
     requires within { i < text.now.known }
     requires right { IsRight text.now.table.now memory.old }
+    requires indexed { IsIndexed text.now.table.now text.now.index.now }
     ensures value { IfOk result (λ o. o ≡ option_and_then (used_in text.now i depth) facts) }
     ensures right { IsRight text.now.table.now memory.new }
 {
@@ -562,6 +582,7 @@ fn walk_use(
 ) -> Result<Option<Facts>, AllocError>
     requires within { i < text.now.known }
     requires right { IsRight text.now.table.now memory.old }
+    requires indexed { IsIndexed text.now.table.now text.now.index.now }
     ensures value { IfOk result (λ o. o ≡ used_in text.now i depth facts.now) }
     ensures right { IsRight text.now.table.now memory.new }
 {
@@ -589,6 +610,7 @@ fn walk_new(
 ) -> Result<Option<Facts>, AllocError>
     requires within { i < text.now.known }
     requires right { IsRight text.now.table.now memory.old }
+    requires indexed { IsIndexed text.now.table.now text.now.index.now }
     ensures value { IfOk result (λ o. o ≡ found_in text.now.table.now i round facts.now) }
     ensures right { IsRight text.now.table.now memory.new }
 {
@@ -610,6 +632,7 @@ fn walk_definition(
     text: &Measuring<'_>,
 ) -> Result<Option<Facts>, AllocError>
     requires right { IsRight text.now.table.now memory.old }
+    requires indexed { IsIndexed text.now.table.now text.now.index.now }
     ensures value { IfOk result (λ o. o ≡ definition_in text.now def.now i round facts.now) }
     ensures right { IsRight text.now.table.now memory.new }
 {
@@ -618,6 +641,7 @@ fn walk_definition(
     }
     let inner = Measuring {
         table: text.table,
+        index: text.index,
         known: i,
         round,
         params: def.params.as_slice(),
@@ -634,6 +658,7 @@ fn walk_body(
     text: &Measuring<'_>,
 ) -> Result<Option<Facts>, AllocError>
     requires right { IsRight text.now.table.now memory.old }
+    requires indexed { IsIndexed text.now.table.now text.now.index.now }
     ensures value { IfOk result (λ o. o ≡ body_in text.now body.now) }
     ensures right { IsRight text.now.table.now memory.new }
 {

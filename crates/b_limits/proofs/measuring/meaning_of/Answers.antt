@@ -2,10 +2,10 @@ use Rattle.b_limits.proofs.Naming.{means_where, meant_where, all_below, all_with
 use Rattle.b_limits.proofs.measuring.meaning_of.Goals as goal
 
 pub returns-clause-value : goal.returns-clause-value
-returns-clause-value c = means_where c.args.text.now.table.now c.args.text.now.known c.args.name.now c.known_definitions.result.now c.known_definitions.ensures c.definition_of.result c.definition_of.ensures.value c.definition_of.ensures.within
+returns-clause-value c = means_where c.args.text.now.table.now c.args.text.now.known c.args.name.now c.definition_of.result c.definition_of.ensures c.known_place.result c.known_place.ensures
 
 pub returns-clause-within : goal.returns-clause-within
-returns-clause-within c = all_below c.args.text.now.table.now c.args.text.now.known c.known_definitions.result.now c.known_definitions.ensures c.definition_of.result c.definition_of.ensures.within
+returns-clause-within c = all_below c.args.text.now.table.now c.args.text.now.known c.args.name.now c.definition_of.result c.definition_of.ensures c.known_place.result c.known_place.ensures
 
 pub returns-clause-known : goal.returns-clause-known
-returns-clause-known c = meant_where _ c.args.text.now.table.now c.definition_of.result (all_within c.args.text.now.table.now c.args.text.now.known c.known_definitions.result.now c.known_definitions.ensures c.definition_of.result c.definition_of.ensures.within)
+returns-clause-known c = meant_where _ c.args.text.now.table.now c.known_place.result (all_within c.args.text.now.table.now c.args.text.now.known c.args.name.now c.definition_of.result c.definition_of.ensures c.known_place.result c.known_place.ensures)
