@@ -92,4 +92,4 @@ knows_none index = λ x. none (answer_of index x)
   where
     none : (o : Option ℕ) → until 0 o ≡ None
     none None = refl
-    none (Some i) = refl
+    none (Some i) = from_bound 0 i (omega arith)

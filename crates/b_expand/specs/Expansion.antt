@@ -1,5 +1,5 @@
 -- The tree that a formula stands for once its definitions are expanded.
-use Rattle.std.specs.Prelude.{ℕ, ◌+◌, ◌==◌, length, Bool, true, false, ◌&&◌, not, if◌then◌else◌, List, [], ◌∷◌, map, fold, position, slice_get, bytes_eq, Option, Some, None, is_some, option_map, option_and_then}
+use Rattle.std.specs.Prelude.{ℕ, ◌==◌, length, Bool, true, false, ◌&&◌, not, if◌then◌else◌, List, [], ◌∷◌, map, fold, position, slice_get, bytes_eq, Option, Some, None, is_some, option_map, option_and_then}
 use Rattle.std.specs.List.{list_all}
 use Rattle.b_ast.specs.declared.Place.{Place}
 use Rattle.b_ast.specs.declared.Bound.{Bound}

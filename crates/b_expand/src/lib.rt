@@ -33,7 +33,6 @@ pub fn expanded(alloc: Global, defs: &DefTable, formula: &Formula) -> Result<For
     filled_in(alloc, defs.defs.as_slice(), formula)
 }
 
-#[tactic(auto, using(crate::proofs::Unused::unused_same, crate::proofs::Indexing::knows_none))]
 fn filled_in(alloc: Global, table: &[Def], formula: &Formula) -> Result<Formula, AllocError>
     ensures { IfOk result (λ e. e ≡ filled table.now formula.now) }
 {

@@ -46,11 +46,7 @@ pub fn measured(
 }
 
 // What a walk through a formula finds.
-fn walked(
-    alloc: Global,
-    defs: &DefTable,
-    formula: &Formula,
-) -> Result<Option<Facts>, AllocError>
+fn walked(alloc: Global, defs: &DefTable, formula: &Formula) -> Result<Option<Facts>, AllocError>
     ensures { IfOk result (λ o. o ≡ measure defs.now.defs formula.now) }
 {
     let table = defs.defs.as_slice();
