@@ -1,29 +1,23 @@
 //! Places that help a user to see why a formula is refused.
-ghost use Rattle.std.specs.Prelude.{◌≡◌, ◌||◌, is_some, map};
+ghost use Rattle.std.specs.Prelude.{◌≡◌, is_some, map};
 ghost use Rattle.b_expand.specs.Using as spec;
 
-use b_ast::machine::Def;
 use b_ast::{After, Formula, Link};
-use b_names::{Index, index_of};
-use std::alloc::Global;
+use b_names::Index;
 
-/// The byte of the first use of a definition of a table in a formula, or of the formula itself; where memory for an index of
-/// the table is wanting, of the formula itself.
-pub fn refused_at(alloc: Global, formula: &Formula, defs: &[Def]) -> u64 {
-    match first_used(alloc, formula, defs) {
+/// The byte of the first use of a definition of the table that an index is of, or of the formula itself.
+pub fn refused_at(formula: &Formula, index: &Index) -> u64
+    ensures { result ≡ spec.place_told (spec.first_use index.now formula.now) formula.now }
+{
+    match first_use(formula, index) {
         Some(at) => at,
         None => first_byte(formula),
     }
 }
 
-fn first_used(alloc: Global, formula: &Formula, defs: &[Def]) -> Option<u64> {
-    match index_of(alloc, defs) {
-        Ok(index) => first_use(formula, &index),
-        Err(_) => None,
-    }
-}
-
-fn first_byte(tree: &Formula) -> u64 {
+fn first_byte(tree: &Formula) -> u64
+    ensures { result ≡ spec.first_byte tree.now }
+{
     match tree {
         Formula::Number(at, _)
         | Formula::Text(at, _)
@@ -50,7 +44,7 @@ fn is_defined(name: &[u8], index: &Index) -> bool
 }
 
 fn either(first: Option<u64>, second: Option<u64>) -> Option<u64>
-    ensures { is_some result ≡ (is_some first || is_some second) }
+    ensures { result ≡ spec.either first second }
 {
     match first {
         Some(at) => Some(at),
@@ -60,14 +54,14 @@ fn either(first: Option<u64>, second: Option<u64>) -> Option<u64>
 
 /// Whether a formula uses definitions.
 pub(crate) fn has_uses(tree: &Formula, index: &Index) -> bool
-    ensures { result ≡ spec.uses index.now tree.now }
+    ensures { result ≡ is_some (spec.first_use index.now tree.now) }
 {
     first_use(tree, index).is_some()
 }
 
 #[cycle(first_use)]
 fn first_use(tree: &Formula, index: &Index) -> Option<u64>
-    ensures { is_some result ≡ spec.uses index.now tree.now }
+    ensures { result ≡ spec.first_use index.now tree.now }
 {
     match tree {
         Formula::Name(at, x) => {
@@ -108,7 +102,7 @@ fn first_use(tree: &Formula, index: &Index) -> Option<u64>
 
 #[cycle(first_use)]
 fn first_use_of(trees: &[Formula], index: &Index) -> Option<u64>
-    ensures { is_some result ≡ spec.any_of (map (spec.uses index.now) trees.now) }
+    ensures { result ≡ spec.first_of (map (spec.first_use index.now) trees.now) }
 {
     for tree in trees {
         if let Some(at) = first_use(tree, index) {
@@ -120,7 +114,7 @@ fn first_use_of(trees: &[Formula], index: &Index) -> Option<u64>
 
 #[cycle(first_use)]
 fn first_use_of_links(links: &[Link], index: &Index) -> Option<u64>
-    ensures { is_some result ≡ spec.any_of (map (spec.link_has_uses index.now) links.now) }
+    ensures { result ≡ spec.first_of (map (spec.first_use_of_link index.now) links.now) }
 {
     for link in links {
         if let Some(at) = first_use_of_link(link, index) {
@@ -132,14 +126,14 @@ fn first_use_of_links(links: &[Link], index: &Index) -> Option<u64>
 
 #[cycle(first_use)]
 fn first_use_of_link(link: &Link, index: &Index) -> Option<u64>
-    ensures { is_some result ≡ spec.link_has_uses index.now link.now }
+    ensures { result ≡ spec.first_use_of_link index.now link.now }
 {
     first_use(&link.operand, index)
 }
 
 #[cycle(first_use)]
 fn first_use_of_forms(forms: &[After], index: &Index) -> Option<u64>
-    ensures { is_some result ≡ spec.any_of (map (spec.form_has_uses index.now) forms.now) }
+    ensures { result ≡ spec.first_of (map (spec.first_use_of_form index.now) forms.now) }
 {
     for form in forms {
         if let Some(at) = first_use_of_form(form, index) {
@@ -151,7 +145,7 @@ fn first_use_of_forms(forms: &[After], index: &Index) -> Option<u64>
 
 #[cycle(first_use)]
 fn first_use_of_form(form: &After, index: &Index) -> Option<u64>
-    ensures { is_some result ≡ spec.form_has_uses index.now form.now }
+    ensures { result ≡ spec.first_use_of_form index.now form.now }
 {
     match form {
         After::Converse(_) => None,

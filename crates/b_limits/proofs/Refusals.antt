@@ -13,10 +13,11 @@ use Rattle.b_expand.specs.Answers.{Answers, judged, sorted_text, text_of}
 use Rattle.b_expand.specs.declared.faults.Unfit.{Unfit}
 use Rattle.b_expand.specs.declared.faults.Unfit.TheVariants.{TooDeep, TooWide}
 use Rattle.b_expand.specs.declared.faults.Unexpanded.{Unexpanded}
+use Rattle.b_expand.specs.declared.faults.Unexpanded.TheVariants.{Refused, Memory}
 use Rattle.b_limits.specs.declared.facts.Facts.{Facts}
 use Rattle.b_limits.specs.Facts.{counted, facts_of}
 use Rattle.b_limits.specs.Measured.{measure}
-use Rattle.b_limits.specs.Standing.{sorted_limited, verdict_of, text_by, judged_by}
+use Rattle.b_limits.specs.Standing.{sorted_limited, verdict_of, text_by, judged_by, IsRefusal}
 use Rattle.b_limits.proofs.Telling.{measure_tells}
 
 -- more than a million nodes are more than a million also where they are counted up to one more
@@ -48,9 +49,10 @@ judged_measured table t facts h v e =
 pub answers_built : (table : List Def) (t : Formula) (facts : Option Facts) → facts ≡ measure table t → (s : Sort) → Ok s ≡ verdict_of facts → (r : Result FormulaText Unexpanded) → Answers (text_by s (expansion table t)) r → Answers (judged (expansion table t)) r
 answers_built table t facts h s e r a = subst (λ (w : Result FormulaText Unfit). Answers w r) (sym (judged_measured table t facts h (Ok s) e)) a
 
--- where what was measured is refused, the expanded tree is
-pub answers_refused : (table : List Def) (t : Formula) (facts : Option Facts) → facts ≡ measure table t → (why : Unfit) → Err why ≡ verdict_of facts → judged (expansion table t) ≡ Err why
-answers_refused table t facts h why e = judged_measured table t facts h (Err why) e
+-- where what was measured is refused, so is the expanded tree
+pub answers_refused : (table : List Def) (t : Formula) (facts : Option Facts) → facts ≡ measure table t → (why : Unfit) → Err why ≡ verdict_of facts → (u : Unexpanded) → IsRefusal why u → Answers (judged (expansion table t)) (Err u)
+answers_refused table t facts h why e (Refused w at) r = judged_measured table t facts h (Err why) e ∙ ap (λ (w : Unfit). Err w) (sym r)
+answers_refused table t facts h why e Memory r = tt
 
 -- where what was measured has a sort, there is an expanded tree
 pub is_there : (table : List Def) (t : Formula) (facts : Option Facts) → facts ≡ measure table t → (s : Sort) → Ok s ≡ verdict_of facts → IsSome (expansion table t)

@@ -1,5 +1,5 @@
 -- What the record of a text says: the table, how many of its definitions the text may use, and its scope.
-use Rattle.std.specs.Prelude.{ℕ, nat_lt, Result, Ok, Err, max, ◌+◌, List, map, take, Option, Some, slice_get, option_map, None, option_and_then, ◌&&◌, ◌==◌, length, if◌then◌else◌}
+use Rattle.std.specs.Prelude.{◌≡◌, ℕ, nat_lt, Result, Ok, Err, max, ◌+◌, List, map, take, Option, Some, slice_get, option_map, None, option_and_then, ◌&&◌, ◌==◌, length, if◌then◌else◌}
 use Rattle.b_ast.specs.Sorts as sorts
 use Rattle.b_ast.specs.declared.Sort.{Sort}
 use Rattle.b_ast.specs.declared.Sort.TheVariants as sort
@@ -7,6 +7,8 @@ use Rattle.b_ast.specs.declared.FormulaText.{FormulaText}
 use Rattle.b_expand.specs.Answers.{text_of}
 use Rattle.b_expand.specs.declared.faults.Unfit.{Unfit}
 use Rattle.b_expand.specs.declared.faults.Unfit.TheVariants.{NotASentence, TooDeep, TooWide}
+use Rattle.b_expand.specs.declared.faults.Unexpanded.{Unexpanded}
+use Rattle.b_expand.specs.declared.faults.Unexpanded.TheVariants.{Refused, Memory}
 use Rattle.b_ast.specs.declared.Place.{Place}
 use Rattle.b_ast.specs.declared.Bound.{Bound}
 use Rattle.b_expand.specs.Places.{names_depth}
@@ -129,3 +131,8 @@ text_by s (Some e) = Ok (text_of s e)
 abbrev pub judged_by : Result Sort Unfit → Option Formula → Result FormulaText Unfit
 judged_by (Err why) o = Err why
 judged_by (Ok s) o = text_by s o
+
+-- a refusal for this reason, unless memory ran out
+abbrev pub IsRefusal : Unfit → Unexpanded → Type 0
+IsRefusal why (Refused w at) = w ≡ why
+IsRefusal why Memory = Unit {0}

@@ -7,7 +7,7 @@ ghost use Rattle.b_expand.specs.Expansion.{expansion};
 ghost use Rattle.b_limits.specs.Facts.{facts_of};
 ghost use Rattle.b_limits.specs.Measured.{measure};
 ghost use Rattle.b_limits.specs.Memory.{IsIndexed};
-ghost use Rattle.b_limits.specs.Standing.{limited, verdict_of, text_by};
+ghost use Rattle.b_limits.specs.Standing.{limited, verdict_of, text_by, IsRefusal};
 
 mod facts;
 mod measuring;
@@ -78,12 +78,19 @@ pub fn expand(alloc: Global, defs: &DefTable, formula: &Formula) -> Result<Formu
     match walked(alloc, defs, formula) {
         Ok(facts) => match verdict(facts) {
             Ok(sort) => built(alloc, defs, formula, sort),
-            Err(why) => Err(Unexpanded::Refused(
-                why,
-                refused_at(alloc, formula, defs.defs.as_slice()),
-            )),
+            Err(why) => Err(refused(alloc, defs, formula, why)),
         },
         Err(_) => Err(Unexpanded::Memory),
+    }
+}
+
+// The refusal of a formula, at the first use of a definition in it.
+fn refused(alloc: Global, defs: &DefTable, formula: &Formula, why: Unfit) -> Unexpanded
+    ensures { IsRefusal why result }
+{
+    match index_of(alloc, defs.defs.as_slice()) {
+        Ok(index) => Unexpanded::Refused(why, refused_at(formula, &index)),
+        Err(_) => Unexpanded::Memory,
     }
 }
 

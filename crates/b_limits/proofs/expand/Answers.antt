@@ -5,7 +5,7 @@ pub returns-in-Ok-verdict : goal.returns-in-Ok-verdict
 returns-in-Ok-verdict c = answers_built c.args.defs.now.defs c.args.formula.now c.in-Ok.facts c.in-Ok.ensures c.in-Ok-verdict.sort c.in-Ok-verdict.ensures c.built.result c.built.ensures
 
 pub returns-in-Err-verdict : goal.returns-in-Err-verdict
-returns-in-Err-verdict c = answers_refused c.args.defs.now.defs c.args.formula.now c.in-Ok.facts c.in-Ok.ensures c.in-Err-verdict.why c.in-Err-verdict.ensures
+returns-in-Err-verdict c = answers_refused c.args.defs.now.defs c.args.formula.now c.in-Ok.facts c.in-Ok.ensures c.in-Err-verdict.why c.in-Err-verdict.ensures c.refused.result c.refused.ensures
 
 -- where there is a verdict, there is an expanded tree
 pub built-requires : goal.built-requires
