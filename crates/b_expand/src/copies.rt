@@ -6,7 +6,7 @@ use b_ast::{After, Bound, Formula, Link, Place};
 use sqlite_items::{Boxed, Items};
 use std::alloc::{AllocError, Global};
 
-// So many brackets and so many more, counted up to 101.
+/// So many brackets and so many more, counted up to 101.
 pub fn brackets(round: u64, depth: u64) -> u64
     ensures { result ≡ spec.brackets round depth }
 {

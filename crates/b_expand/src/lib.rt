@@ -17,10 +17,12 @@ pub mod places;
 use b_ast::Formula;
 use b_ast::machine::{Def, DefTable};
 use b_names::Index;
+pub use copies::{brackets, deeper_place};
 use expander::{Standing, fill};
 pub use faults::{ParseFault, ParseKind, Unexpanded, Unfit};
 use names::{Names, indexed};
 use needs::needed_in;
+pub use parts::{expanded_operator, is_comma};
 use places::has_uses;
 use std::alloc::{AllocError, Global};
 

@@ -29,6 +29,7 @@ pub fn expanded_operator(operator: Operator) -> Operator
     }
 }
 
+/// Whether an operator is the comma between arguments or parts of a couple.
 pub fn is_comma(operator: Operator) -> bool
     ensures { result ≡ spec.is_comma operator }
 {

@@ -11,9 +11,9 @@ ghost use Rattle.b_limits.specs.Standing.{scope_of, means_in, meaning_at, place_
 use crate::facts::{Facts, FormFacts, LinkFacts};
 use crate::memory::{Memory, key_of, recalled, remember};
 use crate::parts;
-use crate::sums::{brackets, deeper_place};
 use b_ast::machine::{Def, DefBody};
 use b_ast::{After, Bound, Formula, Link, Place, Sort};
+use b_expand::{brackets, deeper_place, is_comma};
 use b_names::Index;
 use sqlite_items::Items;
 use std::alloc::{AllocError, Global};
@@ -83,7 +83,7 @@ fn are_commas(links: &[Link], text: &Measuring<'_>) -> bool
 {
     let _definitions = text.table;
     for link in links {
-        if !parts::is_comma(link.operator) {
+        if !is_comma(link.operator) {
             return false;
         }
     }

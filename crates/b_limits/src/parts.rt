@@ -12,30 +12,13 @@ use crate::sorts::{
     all_fit, all_true, argument_sort, body_sort, call_sort, chain_sorted, fits, given,
 };
 use crate::sums::{
-    added, brackets, depth_of, depth_of_forms, depth_of_links, names_depth, nodes_of,
-    nodes_of_forms, nodes_of_links,
+    added, depth_of, depth_of_forms, depth_of_links, names_depth, nodes_of, nodes_of_forms,
+    nodes_of_links,
 };
 use b_ast::{Bound, Collector, Function, Operator, Place, Quantifier, Sort};
+use b_expand::{brackets, expanded_operator};
 use sqlite_items::Items;
 use std::alloc::{AllocError, Global};
-
-fn expanded_operator(operator: Operator) -> Operator
-    ensures { result ≡ expansion.expanded_operator operator }
-{
-    match operator {
-        Operator::Comma => Operator::Maplet,
-        _ => operator,
-    }
-}
-
-pub fn is_comma(operator: Operator) -> bool
-    ensures { result ≡ expansion.is_comma operator }
-{
-    match operator {
-        Operator::Comma => true,
-        _ => false,
-    }
-}
 
 /// The facts, where they are those of a tree of the wanted sort.
 pub fn of_sort(facts: Option<Facts>, wanted: Sort) -> Option<Facts>

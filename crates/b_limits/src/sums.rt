@@ -5,24 +5,7 @@ ghost use Rattle.b_limits.specs.Facts.{counted};
 
 use crate::facts::{Facts, FormFacts, LinkFacts};
 use b_ast::{Bound, Place};
-
-// So many brackets and so many more, counted up to 101.
-pub fn brackets(round: u64, depth: u64) -> u64
-    ensures { result ≡ places.brackets round depth }
-{
-    round.saturating_add(depth).min(101)
-}
-
-/// A place under so many more brackets.
-pub fn deeper_place(round: u64, at: Place) -> Place
-    ensures { result ≡ places.deeper_place round at }
-{
-    Place {
-        machine: at.machine,
-        at: at.at,
-        depth: brackets(round, at.depth),
-    }
-}
+use b_expand::brackets;
 
 /// So many nodes and so many more, counted up to 1,000,001.
 pub fn added(some: u64, more: u64) -> u64
