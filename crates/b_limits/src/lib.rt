@@ -56,6 +56,7 @@ fn walked(alloc: Global, defs: &DefTable, formula: &Formula) -> Result<Option<Fa
         index: &index,
         known: table.len(),
         round: 0,
+        open: 0,
         params: &[],
         facts: &[],
     };

@@ -18,6 +18,10 @@ use b_names::Index;
 use sqlite_items::Items;
 use std::alloc::{AllocError, Global};
 
+// How many brackets may be open round a body that is walked through: the stack is memory too, and each open bracket takes
+// some of it. A text in which more are open has too many, or is no formula.
+const MOST_OPEN: u64 = 500;
+
 /// Where a text stands.
 #[derive(Clone, Copy)]
 pub struct Measuring<'a> {
@@ -27,8 +31,10 @@ pub struct Measuring<'a> {
     pub index: &'a Index,
     /// How many of its first definitions the text may use.
     pub known: usize,
-    /// How many brackets are open round the text.
+    /// How many brackets are open round the text, counted up to 101.
     pub round: u64,
+    /// How many brackets are open round the text, with those round each use that it stands in.
+    pub open: u64,
     /// The parameters of the text, and the facts of the trees that stand for them.
     pub params: &'a [Items<u8>],
     pub facts: &'a [Facts],
@@ -591,7 +597,8 @@ fn walk_use(
     match recalled(memory, text.table, &key, i, round, facts) {
         Some(found) => Ok(found),
         None => {
-            let found = walk_new(i, round, facts, alloc, memory, text)?;
+            let open = text.open.saturating_add(depth).saturating_add(1);
+            let found = walk_new(i, round, open, facts, alloc, memory, text)?;
             remember(memory, text.table, key, i, round, facts, found)?;
             Ok(found)
         }
@@ -603,6 +610,7 @@ fn walk_use(
 fn walk_new(
     i: usize,
     round: u64,
+    open: u64,
     facts: &[Facts],
     alloc: Global,
     memory: &mut Memory,
@@ -614,8 +622,11 @@ fn walk_new(
     ensures value { IfOk result (λ o. o ≡ found_in text.now.table.now i round facts.now) }
     ensures right { IsRight text.now.table.now memory.new }
 {
+    if open > MOST_OPEN {
+        return Err(AllocError);
+    }
     match sqlite_items::at(text.table, i) {
-        Some(def) => walk_definition(def, i, round, facts, alloc, memory, text),
+        Some(def) => walk_definition(def, i, round, open, facts, alloc, memory, text),
         None => Ok(None),
     }
 }
@@ -626,6 +637,7 @@ fn walk_definition(
     def: &Def,
     i: usize,
     round: u64,
+    open: u64,
     facts: &[Facts],
     alloc: Global,
     memory: &mut Memory,
@@ -644,6 +656,7 @@ fn walk_definition(
         index: text.index,
         known: i,
         round,
+        open,
         params: def.params.as_slice(),
         facts,
     };

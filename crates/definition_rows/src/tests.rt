@@ -305,7 +305,7 @@ fn doubling(alloc: Global, first: &str, pattern: &str, count: usize) -> Result<D
     Ok(DefTable { defs })
 }
 
-// A few doublings are read; thirty are refused before anything of their size is built, and an argument that vanishes is
+// A few doublings are read, and a hundred names for one number; thirty doublings are refused before anything of their size is built, and an argument that vanishes is
 // never built.
 #[test]
 fn doublings(rt: HostRuntime) -> Result<(), Fail> {
@@ -314,12 +314,16 @@ fn doublings(rt: HostRuntime) -> Result<(), Fail> {
     let nested = ("k:x:1;;d1:x:x + x", ":x:#(#(x))");
     let wider = ("k:x:1;;d1:x:x + x + x + x", ":x:#(#(x))");
     let longer = ("d1:x:x + 1", ":x:#(#(x))");
+    let renamed = ("d1::1", "::#");
     let rows = [
         (plain, 2usize, "d2", "(1 + 1) + (1 + 1)"),
         (applied, 2, "d2(1)", "(1 + 1) + (1 + 1)"),
         (nested, 2, "d2(1)", "(1 + 1) + (1 + 1)"),
         (plain, 2, "k(d2)", "1"),
         (longer, 6, "d6(1)", "deep"),
+        (renamed, 100, "d100", "1"),
+        (renamed, 101, "d101", "deep"),
+        (renamed, 400, "d400", "deep"),
         (plain, DOUBLINGS, "d30", "wide"),
         (applied, DOUBLINGS, "d30(1)", "wide"),
         (nested, DOUBLINGS, "d30(1)", "deep"),
@@ -333,6 +337,21 @@ fn doublings(rt: HostRuntime) -> Result<(), Fail> {
         let defs = doubling(rt.alloc(), first, pattern, count)?;
         let said = shown(rt.alloc(), &defs, text.as_bytes())?;
         assert!(rt; said.as_slice() == wanted.as_bytes(), "{text}");
+    }
+    Ok(())
+}
+
+// Thousands of definitions that each stand for the one before have too many brackets open, if memory is there to see it.
+#[test]
+fn long_row_of_names(rt: HostRuntime) -> Result<(), Fail> {
+    let defs = doubling(rt.alloc(), "d1::1", "::#", 3000)?;
+    let tokens = lex(rt.alloc(), b"d3000")?;
+    match parse_formula(rt.alloc(), b"d3000", &tokens, &defs) {
+        Ok(_) => assert!(rt; false),
+        Err(ParseFault::Refused { kind, at }) => {
+            assert!(rt; kind == ParseKind::TooDeep && at == 0);
+        }
+        Err(ParseFault::Memory) => assert!(rt; true),
     }
     Ok(())
 }
