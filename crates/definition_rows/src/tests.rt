@@ -1,8 +1,14 @@
 // Texts with definitions, and the canonical texts of what they stand for.
 use b_ast::machine::{Def, DefBody, DefTable, Subst};
-use b_ast::{Expr, Formula, FormulaText, Place, Pred};
-use b_expand::{ParseFault, ParseKind};
+use b_ast::{Expr, Formula, FormulaText, Operator, Place, Pred, Sort};
+use b_expand::places::refused_at;
+use b_expand::{
+    ParseFault, ParseKind, Unexpanded, Unfit, brackets, deeper_place, expanded, expanded_operator,
+    is_comma,
+};
 use b_lex::lex;
+use b_limits::{BRACKET_LIMIT, Facts, NODE_LIMIT, expand, measured};
+use b_names::index_of;
 use b_parse_expr::{parse_formula, tree_of_text};
 use b_print::texts::{print_expr, print_pred};
 use sqlite_items::Items;
@@ -353,5 +359,73 @@ fn long_row_of_names(rt: HostRuntime) -> Result<(), Fail> {
         }
         Err(ParseFault::Memory) => assert!(rt; true),
     }
+    Ok(())
+}
+
+// What is known of an expanded tree, and the tree: five nodes, and one bracket round each body.
+#[test]
+fn measured_and_expanded(rt: HostRuntime) -> Result<(), Fail> {
+    let alloc = rt.alloc();
+    let defs = table(alloc, "d::1 + 2;;k:x:1")?;
+    let formula = tree(alloc, "d * k(d)")?;
+    let wanted = Facts {
+        sort: Some(Sort::Expression),
+        nodes: 5,
+        depth: 1,
+    };
+    assert_eq!(rt; measured(alloc, &defs, &formula)?, Some(wanted));
+    let whole = Expr {
+        formula: expanded(alloc, &defs, &formula)?,
+    };
+    assert!(rt; print_expr(alloc, &whole)?.as_slice() == "(1 + 2) * 1".as_bytes());
+    match expand(alloc, &defs, &formula) {
+        Ok(FormulaText::Expr(e)) => {
+            assert!(rt; print_expr(alloc, &e)?.as_slice() == "(1 + 2) * 1".as_bytes());
+        }
+        _ => assert!(rt; false),
+    }
+    assert_eq!(rt; BRACKET_LIMIT, 100);
+    assert_eq!(rt; NODE_LIMIT, 1_000_000);
+    Ok(())
+}
+
+// A use with too many arguments stands at its byte; a formula without uses at its own.
+#[test]
+fn refusals(rt: HostRuntime) -> Result<(), Fail> {
+    let alloc = rt.alloc();
+    let defs = table(alloc, "k:x:1")?;
+    let index = index_of(alloc, defs.defs.as_slice())?;
+    let wrong = tree(alloc, "1 + k(1, 2)")?;
+    assert_eq!(rt; measured(alloc, &defs, &wrong)?, None);
+    assert_eq!(rt; refused_at(&wrong, &index), 4);
+    assert_eq!(rt; refused_at(&tree(alloc, " x + 1")?, &index), 1);
+    match expand(alloc, &defs, &wrong) {
+        Err(Unexpanded::Refused(why, at)) => {
+            assert!(rt; why == Unfit::NotASentence && at == 4);
+        }
+        _ => assert!(rt; false),
+    }
+    Ok(())
+}
+
+// Brackets are counted up to 101, and commas become maplets.
+#[test]
+fn brackets_and_commas(rt: HostRuntime) -> Result<(), Fail> {
+    assert_eq!(rt; brackets(2, 3), 5);
+    assert_eq!(rt; brackets(100, 5), 101);
+    let at = Place {
+        machine: true,
+        at: 7,
+        depth: 3,
+    };
+    let deeper = Place {
+        machine: true,
+        at: 7,
+        depth: 5,
+    };
+    assert!(rt; deeper_place(2, at) == deeper);
+    assert!(rt; expanded_operator(Operator::Comma) == Operator::Maplet);
+    assert!(rt; expanded_operator(Operator::Plus) == Operator::Plus);
+    assert!(rt; is_comma(Operator::Comma) && !is_comma(Operator::Maplet));
     Ok(())
 }
