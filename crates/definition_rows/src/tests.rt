@@ -362,30 +362,48 @@ fn long_row_of_names(rt: HostRuntime) -> Result<(), Fail> {
     Ok(())
 }
 
-// What is known of an expanded tree, and the tree: five nodes, and one bracket round each body.
-#[test]
-fn measured_and_expanded(rt: HostRuntime) -> Result<(), Fail> {
-    let alloc = rt.alloc();
+// Definitions, and a product that uses them.
+fn product(alloc: Global) -> Result<(DefTable, Formula), Fail> {
     let defs = table(alloc, "d::1 + 2;;k:x:1")?;
     let formula = tree(alloc, "d * k(d)")?;
+    Ok((defs, formula))
+}
+
+// What is known of the expanded product: five nodes, and one bracket round each body.
+#[test]
+fn measures(rt: HostRuntime) -> Result<(), Fail> {
+    let (defs, formula) = product(rt.alloc())?;
     let wanted = Facts {
         sort: Some(Sort::Expression),
         nodes: 5,
         depth: 1,
     };
-    assert_eq!(rt; measured(alloc, &defs, &formula)?, Some(wanted));
-    let whole = Expr {
-        formula: expanded(alloc, &defs, &formula)?,
-    };
-    assert!(rt; print_expr(alloc, &whole)?.as_slice() == "(1 + 2) * 1".as_bytes());
-    match expand(alloc, &defs, &formula) {
-        Ok(FormulaText::Expr(e)) => {
-            assert!(rt; print_expr(alloc, &e)?.as_slice() == "(1 + 2) * 1".as_bytes());
-        }
-        _ => assert!(rt; false),
-    }
+    assert_eq!(rt; measured(rt.alloc(), &defs, &formula)?, Some(wanted));
     assert_eq!(rt; BRACKET_LIMIT, 100);
     assert_eq!(rt; NODE_LIMIT, 1_000_000);
+    Ok(())
+}
+
+fn put_in(alloc: Global) -> Result<Vec<u8>, Fail> {
+    let (defs, formula) = product(alloc)?;
+    let formula = expanded(alloc, &defs, &formula)?;
+    Ok(print_expr(alloc, &Expr { formula })?)
+}
+
+fn put_in_within_limits(alloc: Global) -> Result<Vec<u8>, Fail> {
+    let (defs, formula) = product(alloc)?;
+    match expand(alloc, &defs, &formula) {
+        Ok(FormulaText::Expr(e)) => Ok(print_expr(alloc, &e)?),
+        _ => Err(Fail::from("no expression")),
+    }
+}
+
+// The expanded product.
+#[test]
+fn expands(rt: HostRuntime) -> Result<(), Fail> {
+    let wanted = "(1 + 2) * 1".as_bytes();
+    assert!(rt; put_in(rt.alloc())?.as_slice() == wanted);
+    assert!(rt; put_in_within_limits(rt.alloc())?.as_slice() == wanted);
     Ok(())
 }
 
