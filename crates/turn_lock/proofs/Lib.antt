@@ -1,0 +1,11 @@
+mod Sums
+mod Beginnings
+mod Stages
+mod SharesPart
+mod TicketsPart
+mod HistoryPart
+mod EntriesPart
+mod Steps
+mod Takings
+mod Holds
+mod Ends
