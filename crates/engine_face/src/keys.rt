@@ -1,7 +1,11 @@
 // Formulas and saved steps as texts, and why a formula is refused.
+ghost use Rattle.std.specs.Prelude.{◌≡◌, IfOk};
+ghost use Rattle.engine_face.specs.Meaning.{invariant_key};
+
+use crate::bytes::SharedBytes;
 use b_values::OpId;
-use shared::Shared;
 use sqlite_items::Items;
+use std::alloc::{AllocError, Global};
 
 /// What the names of a formula may be: those of a state, or an operation's parameters besides.
 #[derive(Clone, Copy, Debug, PartialEq, Eq)]
@@ -11,10 +15,32 @@ pub enum Scope {
 }
 
 /// A formula that was read, by its text. The empty text, a predicate, stands for the invariant.
-#[derive(Debug, Drop)]
+#[derive(Debug, Drop, PartialEq, Eq, Hash)]
 pub struct FormulaKey {
-    pub text: Shared<Items<u8>>,
+    pub text: SharedBytes,
     pub predicate: bool,
+}
+
+impl FormulaKey {
+    /// The key of the invariant.
+    pub fn invariant(alloc: Global) -> Result<FormulaKey, AllocError>
+        ensures { IfOk result (λ key. key ≡ invariant_key) }
+    {
+        Ok(FormulaKey {
+            text: SharedBytes::new(alloc, Items::new(alloc))?,
+            predicate: true,
+        })
+    }
+
+    /// The same key. It copies nothing.
+    pub fn share(&self) -> Result<FormulaKey, AllocError>
+        ensures { IfOk result (λ key. key ≡ self.now) }
+    {
+        Ok(FormulaKey {
+            text: self.text.share()?,
+            predicate: self.predicate,
+        })
+    }
 }
 
 /// A name and the text of a value.

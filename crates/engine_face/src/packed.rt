@@ -5,7 +5,7 @@ ghost use Rattle.std.specs.Cmp.{partial_equiv_from_equiv};
 ghost use Rattle.std.specs.Hash as fed;
 ghost use Rattle.std.specs.Prelude.{◌≡◌, IfOk, nat_eq};
 
-use shared::Shared;
+use crate::bytes::SharedBytes;
 use sqlite_items::Items;
 use std::alloc::{AllocError, Global};
 use std::hash::{Hash, Hasher};
@@ -14,7 +14,7 @@ use std::marker::Model;
 /// A state in packed form: a handle of its bytes, which further handles share. Contracts see the bytes.
 #[derive(Debug, Drop)]
 pub struct Packed {
-    bytes: Shared<Items<u8>>,
+    bytes: SharedBytes,
 }
 
 impl Model for Packed {
@@ -33,14 +33,14 @@ impl Packed {
         ensures { IfOk result (λ p. p ≡ bytes) }
     {
         Ok(Packed {
-            bytes: Shared::new(alloc, bytes)?,
+            bytes: SharedBytes::new(alloc, bytes)?,
         })
     }
 
     pub fn bytes(&self) -> &[u8]
         ensures { result.now ≡ self.now }
     {
-        self.bytes.get().as_slice()
+        self.bytes.as_slice()
     }
 
     /// Another handle of the same bytes. It copies nothing.
@@ -59,7 +59,7 @@ impl PartialEq for Packed {
     ghost laws = { partial_equiv_from_equiv nat_list_eq_equiv };
 
     fn eq(&self, other: &Packed) -> bool {
-        self.bytes() == other.bytes()
+        self.bytes == other.bytes
     }
 }
 
@@ -73,6 +73,6 @@ impl Hash for Packed {
     ghost respects_eq = { Prim.search (hashing, rules) };
 
     fn hash<H: Hasher>(&self, state: &mut H) {
-        self.bytes().hash(state);
+        self.bytes.hash(state);
     }
 }
