@@ -4,3 +4,8 @@ pub mod Typing
 pub mod Answers
 pub mod Counting
 pub mod Misses
+pub mod Words
+pub mod WordLaws
+pub mod Keys
+pub mod Stores
+pub mod StoreLaws

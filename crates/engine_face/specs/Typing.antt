@@ -5,7 +5,7 @@ use Rattle.std.specs.List.{AllByRecursion, AllZip}
 use Rattle.b_values.specs.Values.{IsKept}
 use Rattle.b_values.specs.Types.{HasType}
 use Rattle.b_values.specs.Preferences.{AreInRange}
-use Rattle.b_values.specs.Reading.{HasNames, NumbersFit, is_name}
+use Rattle.b_values.specs.Reading.{HasNames, is_name}
 use Rattle.b_values.specs.declared.types.Face.{Face}
 use Rattle.b_values.specs.declared.types.NameFace.{NameFace}
 use Rattle.b_values.specs.declared.types.SetFace.{SetFace}
@@ -15,17 +15,18 @@ use Rattle.b_values.specs.declared.types.OpId.TheVariants as op
 use Rattle.b_values.specs.declared.values.State.{State}
 use Rattle.b_values.specs.declared.values.State.TheVariants.{Root, Constants, Running}
 use Rattle.b_values.specs.declared.values.Value.{Value}
+use Rattle.engine_face.specs.Words.{WordsFit}
 use Rattle.engine_face.specs.Packing.{Unpacking, IsPacked}
 use Rattle.engine_face.specs.declared.answers.Step.{Step}
 use Rattle.engine_face.specs.declared.answers.OpList.{OpList}
 use Rattle.engine_face.specs.declared.keys.Scope.{Scope}
 use Rattle.engine_face.specs.declared.keys.Scope.TheVariants as scope
 
--- a value of the type: its sets ascend, it has at most a million nodes, and its numbers have 128 bits
+-- a value of the type: its sets ascend, it has at most a million nodes, and its numbers and places fit their words
 pub record IsOfType (sets : List SetFace) (ty : Ty) (v : Value) : Type 0 where
   pub typed : HasType sets ty v
   pub kept : IsKept v
-  pub numbers : NumbersFit v
+  pub words : WordsFit v
 
 -- one value for each name, of its type
 abbrev pub AreOfTypes : List SetFace → List NameFace → List Value → Type 0
