@@ -1,5 +1,5 @@
 -- What an engine's machine means, told of plain states. It rests on the machine and its preferences alone.
-use Rattle.std.specs.Prelude.{◌≡◌, ℕ, List, [], true, Result, Ok, Err}
+use Rattle.std.specs.Prelude.{◌≡◌, ◌⊎◌, ℕ, List, [], true, Result, Ok, Err}
 use Rattle.b_values.specs.declared.types.Face.{Face}
 use Rattle.b_values.specs.declared.types.OpId.{OpId}
 use Rattle.b_values.specs.declared.values.State.{State}
@@ -42,9 +42,8 @@ abbrev pub IsAccepted : Meaning → Scope → FormulaKey → Type 0
 IsAccepted m scope key = m.read_formula scope key.text ≡ Ok key
 
 -- the key may be asked for in a state: the invariant's, or one that was accepted
-pub data IsAskable (m : Meaning) : FormulaKey → Type 0 where
-  invariant : IsAskable m invariant_key
-  accepted : {key : FormulaKey} → IsAccepted m scope.State key → IsAskable m key
+abbrev pub IsAskable : Meaning → FormulaKey → Type 0
+IsAskable m key = (key ≡ invariant_key) ⊎ IsAccepted m scope.State key
 
 -- the key is a predicate that was accepted in the scope of the operation
 pub record IsPredicateOf (m : Meaning) (op : OpId) (key : FormulaKey) : Type 0 where
@@ -55,8 +54,8 @@ pub record IsPredicateOf (m : Meaning) (op : OpId) (key : FormulaKey) : Type 0 w
 abbrev pub KeysHaveTexts : Meaning → Type 0
 KeysHaveTexts m = (scope : Scope) (text : List ℕ) (key : FormulaKey) → m.read_formula scope text ≡ Ok key → key.text ≡ text
 
--- the answer to a text is its key, or exactly its refusal; or there was no memory
+-- the answer to a text is its key, which is then accepted, or exactly its refusal; or there was no memory
 abbrev pub ReadsTo : Meaning → Scope → List ℕ → Result FormulaKey KeyFault → Type 0
-ReadsTo m scope text (Ok key) = m.read_formula scope text ≡ Ok key
+ReadsTo m scope text (Ok key) = (m.read_formula scope text ≡ Ok key) × IsAccepted m scope key
 ReadsTo m scope text (Err (fault.Refused kind)) = m.read_formula scope text ≡ Err kind
 ReadsTo m scope text (Err fault.Memory) = Unit {0}

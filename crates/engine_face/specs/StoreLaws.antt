@@ -119,14 +119,14 @@ module _ {K V : Type 0} (same : K → K → Bool) (sound : (a b : K) → same a 
   missed_put : (n : ℕ) (k : K) (v : V) (es : List (K × V)) (o p : Option (K × V)) → lookup_entry (same k) es ≡ o → o ≡ None
       → lookup_entry (same k) (option_map_or (λ e. e ∷ remove_entry (same k) es) o es) ≡ p
       → keys_of (option_map_or (λ e. (e.0, v) ∷ remove_entry (same k) (option_map_or (λ e. e ∷ remove_entry (same k) es) o es)) p
-          ((k, v) ∷ take n (option_map_or (λ e. e ∷ remove_entry (same k) es) o es))) ≡ k ∷ take n (keys_of es)
+      ((k, v) ∷ take n (option_map_or (λ e. e ∷ remove_entry (same k) es) o es))) ≡ k ∷ take n (keys_of es)
   missed_put n k v es None None is none at = ap (λ (ks : List K). k ∷ ks) (take_keys n es)
   missed_put n k v es None (Some e) is none at = let no : None ≡ Some e = sym is ∙ at in cc
   missed_put n k v es (Some e) p is none at = cc
 
   asked_by : (value : K → V) (s : Store K V) (k : K) (b : Bool) → is_some (found same s k) ≡ b
       → keys_of (if b then looked same s k else put_in same (looked same s k) k (value k)).entries
-        ≡ (if b then k ∷ removed same s.capacity k (keys_of s.entries) else k ∷ take (s.capacity - 1) (keys_of s.entries))
+      ≡ (if b then k ∷ removed same s.capacity k (keys_of s.entries) else k ∷ take (s.capacity - 1) (keys_of s.entries))
   asked_by value s k true is = hit_by s.capacity k s.entries (lookup_entry (same k) s.entries) refl (ap is_some (sym (lookup_is (same k) s.entries)) ∙ is)
   asked_by value s k false is =
       missed_put (s.capacity - 1) k (value k) s.entries (lookup_entry (same k) s.entries) _ refl (none_by _ (ap is_some (sym (lookup_is (same k) s.entries)) ∙ is)) refl
