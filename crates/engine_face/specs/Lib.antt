@@ -1,0 +1,11 @@
+pub mod Packing
+pub mod Meaning
+pub mod Typing
+pub mod Answers
+pub mod Counting
+pub mod Misses
+pub mod Words
+pub mod WordLaws
+pub mod Keys
+pub mod Stores
+pub mod StoreLaws
