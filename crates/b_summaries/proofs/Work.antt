@@ -1,0 +1,14 @@
+-- What is left to expand: the nodes of a tree, and those of the definitions that it may use.
+use Rattle.std.proofs.Common.{◌≡◌, ℕ, zero, suc, ◌+◌, ◌<◌, ◌≤◌, List, [], ◌∷◌, take, map, sum, length, get_or, ap, arith, rules, Some}
+use Rattle.std.specs.Prelude.{slice_get}
+use Rattle.std.proofs.lemmas.List.Sums.{sum_by-cons}
+use Rattle.b_expand.specs.Places.{node_total}
+
+sum-more : (n : ℕ) (ns : List ℕ) → sum (n ∷ ns) ≡ n + sum ns
+sum-more n ns = sum_by-cons (λ n. n) n ns
+
+-- a part has at most what all have
+pub part_of_sum : {X : Type 0} (f : X → ℕ) (xs : List X) (i : ℕ) (d : X) → i < length xs → f (get_or xs i d) ≤ sum (map f xs)
+part_of_sum f [] i d h = absurd (omega arith)
+part_of_sum f (x ∷ xs) zero d h = rw (sum-more (f x) (map f xs)) (omega arith)
+part_of_sum f (x ∷ xs) (suc i) d h = let k = part_of_sum f xs i d (omega arith) in rw (sum-more (f x) (map f xs)) (omega arith)

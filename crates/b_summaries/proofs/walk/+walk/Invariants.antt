@@ -1,0 +1,62 @@
+use Rattle.std.proofs.Common.{◌≡◌, ◌+◌, ◌*◌, map, sum, drop}
+use Rattle.b_expand.specs.Places.{node_total, nodes_of_link, nodes_of_after}
+use Rattle.b_summaries.specs.Summaries as spec
+use Rattle.b_summaries.specs.Standing.{reading_in, form_in, side_in, operands_in}
+use Rattle.b_summaries.proofs.PartLists.{joined}
+use Rattle.b_summaries.proofs.walk.+walk.Given as goal
+
+-- what is found, and then the rest
+abbrev pub invariant-walk_all-loop-tree : goal.invariant-walk_all-loop-tree
+invariant-walk_all-loop-tree l = spec.with_all l.wanted (spec.trees (map (reading_in l.text) (drop l.tree-index l.trees))) l.found ≡ spec.with_all l.wanted (spec.trees (map (reading_in l.text) l.trees)) l.fn.parts
+
+abbrev pub invariant-walk_links-loop-link : goal.invariant-walk_links-loop-link
+invariant-walk_links-loop-link l = spec.with_sides (map (side_in l.text) (drop l.link-index l.links)) l.found ≡ spec.with_sides (map (side_in l.text) l.links) l.fn.parts
+
+abbrev pub invariant-walk_forms-loop-form : goal.invariant-walk_forms-loop-form
+invariant-walk_forms-loop-form l = spec.with_forms (map (form_in l.text) (drop l.form-index l.forms)) l.found ≡ spec.with_forms (map (form_in l.text) l.forms) l.fn.parts
+
+abbrev pub invariant-walk_operands-loop-link : goal.invariant-walk_operands-loop-link
+invariant-walk_operands-loop-link l = joined l.found (map (λ k. k.operand) (map (side_in l.text) (drop l.link-index l.links))) ≡ operands_in l.text l.links
+
+-- the nodes that are left
+abbrev pub decreases-walk : goal.decreases-walk
+decreases-walk l = 8 * node_total l.tree.now + 1
+
+abbrev pub decreases-walk_all : goal.decreases-walk_all
+decreases-walk_all l = 8 * sum (map node_total l.trees.now) + 2
+
+abbrev pub decreases-walk_chain : goal.decreases-walk_chain
+decreases-walk_chain l = 8 * sum (map nodes_of_link l.links.now) + 4
+
+abbrev pub decreases-walk_links : goal.decreases-walk_links
+decreases-walk_links l = 8 * sum (map nodes_of_link l.links.now) + 3
+
+abbrev pub decreases-walk_link : goal.decreases-walk_link
+decreases-walk_link l = 8 * nodes_of_link l.link.now + 2
+
+abbrev pub decreases-walk_forms : goal.decreases-walk_forms
+decreases-walk_forms l = 8 * sum (map nodes_of_after l.forms.now) + 3
+
+abbrev pub decreases-walk_form : goal.decreases-walk_form
+decreases-walk_form l = 8 * nodes_of_after l.form.now + 2
+
+abbrev pub decreases-walk_row : goal.decreases-walk_row
+decreases-walk_row l = 8 * (node_total l.head.now + sum (map nodes_of_after l.forms.now)) + 7
+
+abbrev pub decreases-walk_called : goal.decreases-walk_called
+decreases-walk_called l = 8 * (node_total l.head.now + sum (map nodes_of_after l.forms.now)) + 6
+
+abbrev pub decreases-walk_rest : goal.decreases-walk_rest
+decreases-walk_rest l = 8 * sum (map nodes_of_after l.forms.now) + 5
+
+abbrev pub decreases-walk_after : goal.decreases-walk_after
+decreases-walk_after l = 8 * sum (map nodes_of_after l.forms.now) + 4
+
+abbrev pub decreases-walk_arguments : goal.decreases-walk_arguments
+decreases-walk_arguments l = 8 * node_total l.tree.now + 3
+
+abbrev pub decreases-walk_operands : goal.decreases-walk_operands
+decreases-walk_operands l = 8 * sum (map nodes_of_link l.links.now) + 4
+
+abbrev pub decreases-walk_operand : goal.decreases-walk_operand
+decreases-walk_operand l = 8 * nodes_of_link l.link.now + 2

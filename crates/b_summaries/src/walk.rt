@@ -1,0 +1,409 @@
+//! The summary of a text, in one walk through it.
+ghost use Rattle.std.specs.Prelude.{◌≡◌, [], ◌∷◌, ◌++◌, ◌<◌, length, map, Some, IfOk, IsSome, option_map, option_and_then};
+ghost use Rattle.b_expand.specs.Expansion.{both};
+ghost use Rattle.b_summaries.specs.Summaries as spec;
+ghost use Rattle.b_summaries.specs.Standing.{IsReady, meaning_at, means_in, reading_in, form_in, side_in, summary_in, row_in, arguments_in, operands_in, used_at};
+
+use crate::lists::{before, pushed};
+use crate::making::{around, formed, leaf, parameter, start, start_row, with_part, with_place};
+use crate::sorts::{argument_sort, body_sort, call_sort, chain_sort, operand_sort};
+use crate::summary::{Parts, Summary};
+use crate::texts::{
+    Text, application, called, may_bind_all, meaning_of, names_depth, place_of, several, use_of,
+};
+use b_ast::{After, Formula, Link, Place, Sort};
+use b_expand::expanded_operator;
+use sqlite_items::Items;
+use std::alloc::{AllocError, Global};
+
+/// The summary of a tree of a text; None where no tree that it stands for can be in order.
+#[cycle(walk)]
+pub fn walk(tree: &Formula, alloc: Global, text: &Text<'_>) -> Result<Option<Summary>, AllocError>
+    requires { IsReady text.now }
+    ensures { IfOk result (λ o. o ≡ summary_in text.now tree.now) }
+{
+    match tree {
+        Formula::Number(at, _) => Ok(Some(leaf(alloc, at.depth))),
+        Formula::Text(at, _) => Ok(Some(leaf(alloc, at.depth))),
+        Formula::Name(at, x) => walk_name(*at, x.as_slice(), alloc, text),
+        Formula::Old(at, _) => Ok(Some(leaf(alloc, at.depth))),
+        Formula::Constant(at, _) => Ok(Some(leaf(alloc, at.depth))),
+        Formula::Negative(at, e) => {
+            let e = walk(e.get(), alloc, text)?;
+            around(alloc, at.depth, Sort::Expression, Sort::Expression, e)
+        }
+        Formula::Chain(e, links) => {
+            let e = walk(e.get(), alloc, text)?;
+            walk_chain(links.as_slice(), e, alloc, text)
+        }
+        Formula::Row(e, forms) => walk_row(e.get(), forms.as_slice(), alloc, text),
+        Formula::Call(at, f, es) => {
+            let parts = walk_all(
+                es.as_slice(),
+                argument_sort(*f),
+                start(alloc, at.depth),
+                alloc,
+                text,
+            )?;
+            Ok(formed(call_sort(*f), parts))
+        }
+        Formula::Set(at, es) => {
+            let parts = walk_all(
+                es.as_slice(),
+                Sort::Expression,
+                start(alloc, at.depth),
+                alloc,
+                text,
+            )?;
+            Ok(formed(Sort::Expression, parts))
+        }
+        Formula::Sequence(at, es) => {
+            let parts = walk_all(
+                es.as_slice(),
+                Sort::Expression,
+                start(alloc, at.depth),
+                alloc,
+                text,
+            )?;
+            Ok(formed(Sort::Expression, parts))
+        }
+        Formula::Comprehension(at, xs, p) => {
+            let xs = xs.as_slice();
+            if !may_bind_all(text, xs) {
+                return Ok(None);
+            }
+            let p = walk(p.get(), alloc, text)?;
+            around(
+                alloc,
+                names_depth(*at, xs),
+                Sort::Expression,
+                Sort::Predicate,
+                p,
+            )
+        }
+        Formula::Quantified(at, q, xs, p) => {
+            let xs = xs.as_slice();
+            if !may_bind_all(text, xs) {
+                return Ok(None);
+            }
+            let p = walk(p.get(), alloc, text)?;
+            around(
+                alloc,
+                names_depth(*at, xs),
+                Sort::Predicate,
+                body_sort(*q),
+                p,
+            )
+        }
+        Formula::Collected(at, _, xs, p, e) => {
+            let xs = xs.as_slice();
+            if !may_bind_all(text, xs) {
+                return Ok(None);
+            }
+            let p = walk(p.get(), alloc, text)?;
+            let parts = with_part(Sort::Predicate, p, start(alloc, names_depth(*at, xs)))?;
+            let e = walk(e.get(), alloc, text)?;
+            let parts = with_part(Sort::Expression, e, parts)?;
+            Ok(formed(Sort::Expression, parts))
+        }
+        Formula::If(at, p, e, f) => {
+            let p = walk(p.get(), alloc, text)?;
+            let parts = with_part(Sort::Predicate, p, start(alloc, at.depth))?;
+            let e = walk(e.get(), alloc, text)?;
+            let parts = with_part(Sort::Expression, e, parts)?;
+            let f = walk(f.get(), alloc, text)?;
+            let parts = with_part(Sort::Expression, f, parts)?;
+            Ok(formed(Sort::Expression, parts))
+        }
+    }
+}
+
+// With some more trees, each of which has to be of a sort.
+#[cycle(walk)]
+#[tactic(auto, using(crate::proofs::Work::part_of_sum))]
+fn walk_all(
+    trees: &[Formula],
+    wanted: Sort,
+    parts: Option<Parts>,
+    alloc: Global,
+    text: &Text<'_>,
+) -> Result<Option<Parts>, AllocError>
+    requires { IsReady text.now }
+    ensures { IfOk result (λ o. o ≡ spec.with_all wanted (spec.trees (map (reading_in text.now) trees.now)) parts) }
+{
+    let mut found = parts;
+    for tree in trees {
+        let tree = walk(tree, alloc, text)?;
+        found = with_part(wanted, tree, found)?;
+    }
+    Ok(found)
+}
+
+// A chain, from its first operand.
+#[cycle(walk)]
+fn walk_chain(
+    links: &[Link],
+    first: Option<Summary>,
+    alloc: Global,
+    text: &Text<'_>,
+) -> Result<Option<Summary>, AllocError>
+    requires { IsReady text.now }
+    ensures { IfOk result (λ o. o ≡ spec.chain first (map (side_in text.now) links.now)) }
+{
+    match links {
+        [] => Ok(None),
+        [link, ..] => {
+            let operator = expanded_operator(link.operator);
+            let parts = with_part(operand_sort(operator), first, start_row(alloc))?;
+            let parts = walk_links(links, parts, alloc, text)?;
+            Ok(formed(chain_sort(operator), parts))
+        }
+    }
+}
+
+#[cycle(walk)]
+#[tactic(auto, using(crate::proofs::Work::part_of_sum))]
+fn walk_links(
+    links: &[Link],
+    parts: Option<Parts>,
+    alloc: Global,
+    text: &Text<'_>,
+) -> Result<Option<Parts>, AllocError>
+    requires { IsReady text.now }
+    ensures { IfOk result (λ o. o ≡ spec.with_sides (map (side_in text.now) links.now) parts) }
+{
+    let mut found = parts;
+    for link in links {
+        found = walk_link(link, found, alloc, text)?;
+    }
+    Ok(found)
+}
+
+#[cycle(walk)]
+fn walk_link(
+    link: &Link,
+    parts: Option<Parts>,
+    alloc: Global,
+    text: &Text<'_>,
+) -> Result<Option<Parts>, AllocError>
+    requires { IsReady text.now }
+    ensures { IfOk result (λ o. o ≡ spec.with_side (side_in text.now link.now) parts) }
+{
+    let operand = walk(&link.operand, alloc, text)?;
+    let wanted = operand_sort(expanded_operator(link.operator));
+    with_part(wanted, operand, with_place(link.at.depth, parts))
+}
+
+#[cycle(walk)]
+#[tactic(auto, using(crate::proofs::Work::part_of_sum))]
+fn walk_forms(
+    forms: &[After],
+    parts: Option<Parts>,
+    alloc: Global,
+    text: &Text<'_>,
+) -> Result<Option<Parts>, AllocError>
+    requires { IsReady text.now }
+    ensures { IfOk result (λ o. o ≡ spec.with_forms (map (form_in text.now) forms.now) parts) }
+{
+    let mut found = parts;
+    for form in forms {
+        found = walk_form(form, found, alloc, text)?;
+    }
+    Ok(found)
+}
+
+#[cycle(walk)]
+fn walk_form(
+    form: &After,
+    parts: Option<Parts>,
+    alloc: Global,
+    text: &Text<'_>,
+) -> Result<Option<Parts>, AllocError>
+    requires { IsReady text.now }
+    ensures { IfOk result (λ o. o ≡ spec.with_form (form_in text.now form.now) parts) }
+{
+    match form {
+        After::Converse(at) => Ok(with_place(at.depth, parts)),
+        After::Apply(at, e) => {
+            let e = walk(e, alloc, text)?;
+            with_part(Sort::Expression, e, with_place(at.depth, parts))
+        }
+        After::Image(at, e) => {
+            let e = walk(e, alloc, text)?;
+            with_part(Sort::Expression, e, with_place(at.depth, parts))
+        }
+    }
+}
+
+fn walk_name(
+    at: Place,
+    name: &[u8],
+    alloc: Global,
+    text: &Text<'_>,
+) -> Result<Option<Summary>, AllocError>
+    requires { IsReady text.now }
+    ensures { IfOk result (λ o. o ≡ spec.named (spec.place_of text.now.params.now name.now) (means_in text.now name.now) at.depth) }
+{
+    match place_of(text.params, name) {
+        Some(i) => {
+            let argument = parameter(alloc, i, at.depth)?;
+            Ok(Some(argument))
+        }
+        None => match meaning_of(text, name) {
+            Some(i) => use_of(i, at.depth, &[], alloc, text),
+            None => Ok(Some(leaf(alloc, at.depth))),
+        },
+    }
+}
+
+#[cycle(walk)]
+fn walk_row(
+    head: &Formula,
+    forms: &[After],
+    alloc: Global,
+    text: &Text<'_>,
+) -> Result<Option<Summary>, AllocError>
+    requires { IsReady text.now }
+    ensures { IfOk result (λ o. o ≡ row_in text.now head.now forms.now) }
+{
+    match called(head, text) {
+        Some((depth, i)) => walk_called(head, forms, depth, i, alloc, text),
+        None => {
+            let head = walk(head, alloc, text)?;
+            walk_after(forms, head, alloc, text)
+        }
+    }
+}
+
+// A tree with the forms after it.
+#[cycle(walk)]
+fn walk_after(
+    forms: &[After],
+    head: Option<Summary>,
+    alloc: Global,
+    text: &Text<'_>,
+) -> Result<Option<Summary>, AllocError>
+    requires { IsReady text.now }
+    ensures { IfOk result (λ o. o ≡ spec.plain_row head (map (form_in text.now) forms.now)) }
+{
+    let parts = with_part(Sort::Expression, head, start_row(alloc))?;
+    let parts = walk_forms(forms, parts, alloc, text)?;
+    Ok(formed(Sort::Expression, parts))
+}
+
+// A use with the forms after its arguments.
+#[cycle(walk)]
+fn walk_rest(
+    forms: &[After],
+    used: Option<Summary>,
+    alloc: Global,
+    text: &Text<'_>,
+) -> Result<Option<Summary>, AllocError>
+    requires { IsReady text.now }
+    ensures { IfOk result (λ o. o ≡ spec.row_of used (map (form_in text.now) forms.now)) }
+{
+    match forms {
+        [] => Ok(used),
+        [_, ..] => walk_after(forms, used, alloc, text),
+    }
+}
+
+// A row whose head names a definition with parameters.
+#[cycle(walk)]
+fn walk_called(
+    head: &Formula,
+    forms: &[After],
+    depth: u64,
+    i: usize,
+    alloc: Global,
+    text: &Text<'_>,
+) -> Result<Option<Summary>, AllocError>
+    requires ready { IsReady text.now }
+    requires within { i < length text.now.known.now }
+    requires known { IsSome (meaning_at text.now i) }
+    ensures { IfOk result (λ o. o ≡ spec.row (option_map (λ m. (depth, m)) (meaning_at text.now i)) (reading_in text.now head.now) (map (form_in text.now) forms.now)) }
+{
+    match application(forms, text) {
+        Some((e, rest)) => {
+            let arguments = walk_arguments(e, alloc, text)?;
+            let used = used_with(i, depth, arguments, alloc, text)?;
+            walk_rest(rest, used, alloc, text)
+        }
+        None => {
+            let head = walk(head, alloc, text)?;
+            walk_after(forms, head, alloc, text)
+        }
+    }
+}
+
+fn used_with(
+    i: usize,
+    depth: u64,
+    arguments: Option<Items<Summary>>,
+    alloc: Global,
+    text: &Text<'_>,
+) -> Result<Option<Summary>, AllocError>
+    requires ready { IsReady text.now }
+    requires within { i < length text.now.known.now }
+    ensures { IfOk result (λ o. o ≡ option_and_then (used_at (meaning_at text.now i) depth) arguments) }
+{
+    match arguments {
+        Some(arguments) => use_of(i, depth, arguments.as_slice(), alloc, text),
+        None => Ok(None),
+    }
+}
+
+// The arguments that a tree is in the brackets of a use.
+#[cycle(walk)]
+fn walk_arguments(
+    tree: &Formula,
+    alloc: Global,
+    text: &Text<'_>,
+) -> Result<Option<Items<Summary>>, AllocError>
+    requires { IsReady text.now }
+    ensures { IfOk result (λ o. o ≡ arguments_in text.now tree.now) }
+{
+    match several(tree, text) {
+        Some((first, links)) => {
+            let first = walk(first, alloc, text)?;
+            let rest = walk_operands(links, alloc, text)?;
+            before(alloc, first, rest)
+        }
+        None => {
+            let tree = walk(tree, alloc, text)?;
+            before(alloc, tree, Some(Items::new(alloc)))
+        }
+    }
+}
+
+#[cycle(walk)]
+#[tactic(auto, using(crate::proofs::PartLists::joined_more, crate::proofs::PartLists::joined_none, crate::proofs::PartLists::joined_all, crate::proofs::Work::part_of_sum))]
+fn walk_operands(
+    links: &[Link],
+    alloc: Global,
+    text: &Text<'_>,
+) -> Result<Option<Items<Summary>>, AllocError>
+    requires { IsReady text.now }
+    ensures { IfOk result (λ o. o ≡ operands_in text.now links.now) }
+{
+    let mut found = Some(Items::new(alloc));
+    for link in links {
+        found = walk_operand(link, found, alloc, text)?;
+    }
+    Ok(found)
+}
+
+// With the operand of one more link.
+#[cycle(walk)]
+fn walk_operand(
+    link: &Link,
+    found: Option<Items<Summary>>,
+    alloc: Global,
+    text: &Text<'_>,
+) -> Result<Option<Items<Summary>>, AllocError>
+    requires { IsReady text.now }
+    ensures { IfOk result (λ o. o ≡ both (λ xs x. xs ++ x ∷ []) found (side_in text.now link.now).operand) }
+{
+    let operand = walk(&link.operand, alloc, text)?;
+    pushed(found, operand)
+}
