@@ -1,6 +1,5 @@
 -- Descent reads exactly the texts of the grammar.
 use Rattle.std.proofs.Common.{◌≡◌, ◌⊎◌, inl, inr, ◌==◌, ℕ, zero, suc, Bool, true, false, List, [], ◌∷◌, ◌++◌, length, Option, Some, None, refl, sym, ap, ◌∙◌, subst, append_assoc, append-nil}
-use Rattle.std.proofs.lemmas.Bool.{eqb-true}
 use Rattle.b_ast.specs.declared.Place.{Place}
 use Rattle.b_ast.specs.declared.Bound.{Bound}
 use Rattle.b_ast.specs.declared.Function.{Function}
@@ -15,11 +14,12 @@ use Rattle.b_grammar.specs.declared.Symbol.{Symbol}
 use Rattle.b_grammar.specs.declared.Symbol.TheVariants as symbol
 use Rattle.b_grammar.specs.declared.Lexeme.{Lexeme}
 use Rattle.b_grammar.specs.Cuts.{Stands, mark, IsNever, IsDone, IsHeaded, IsEnded, IsPair, IsEach, IsMade, IsSuch}
-use Rattle.b_grammar.specs.Grammar.{priority, plain, bracketed, may_chain, arity, Part, chain, row, items, joined, mark_of, Names, names_to_bar, bound_names, is_minus, IsAfterNames, IsPart, IsChain, IsCutAt, IsNext, IsList, IsListing, IsCurlyBy, IsCurly, IsConditional, IsMarked, IsCall, IsOld, IsForm, IsAfter, IsRow, IsSigned, IsOperand, IsFormula}
+use Rattle.b_grammar.specs.Grammar.{plain, bracketed, arity, Part, row, items, joined, mark_of, Names, names_to_bar, bound_names, is_minus, IsAfterNames, IsCutAt, IsNext, IsList, IsListing, IsCurlyBy, IsCurly, IsConditional, IsMarked, IsCall, IsOld, IsForm, IsAfter, IsRow, IsSigned, IsOperand, IsFormula}
 use Rattle.b_grammar.specs.Descent as spec
-use Rattle.b_grammar.specs.Descent.{Found, Read, starts, has_priority, with_found, part, chained, cut_at, is_comma, next, listed, after_names, begins_after, reads_formula, never, done, headed, ended, pair, each, made, such, or_else}
+use Rattle.b_grammar.specs.Descent.{Found, Read, starts, with_found, is_operator, part, Row, operands, if_some, grouped, alone, and_left, cut_at, is_comma, next, listed, after_names, begins_after, reads_formula, never, done, headed, ended, pair, each, made, such, or_else}
 use Rattle.b_grammar.proofs.BoundNames.{bar_front, bar_stops, bound_front, front_more}
-use Rattle.b_grammar.proofs.Ways.{same_found, mark_named, IsSound, IsComplete, Anything, never_sound, never_complete, done_sound, done_complete, headed_sound, headed_complete, ended_sound, ended_complete, pair_sound, pair_complete, each_sound, each_complete, next_ends, made_sound, made_complete, such_sound, such_complete, either_sound, either_complete}
+use Rattle.b_grammar.proofs.Grouping.{IsLink, IsOperands, IsTested, IsFree, tree_sound, tree_complete}
+use Rattle.b_grammar.proofs.Ways.{same_found, found_from, mark_named, IsSound, IsComplete, Anything, never_sound, never_complete, done_sound, done_complete, headed_sound, headed_complete, ended_sound, ended_complete, pair_sound, pair_complete, each_sound, each_complete, next_ends, made_sound, made_complete, such_sound, such_complete, either_sound, either_complete}
 
 -- ---- what may follow a formula with operators of these priorities
 
@@ -30,104 +30,88 @@ is_old s = of (mark_of s.symbol)
     of (Some sign.Old) = true
     of x = false
 
+-- no form of an operand goes on
+abbrev pub EndsOperand : List Lexeme → Type 0
+EndsOperand rest = (starts is_old rest ≡ false) × (starts begins_after rest ≡ false)
+
 abbrev pub EndsAt : List ℕ → List Lexeme → Type 0
-EndsAt [] rest = (starts is_old rest ≡ false) × (starts begins_after rest ≡ false)
-EndsAt (p ∷ ps) rest = EndsAt ps rest × (starts (has_priority p) rest ≡ false)
+EndsAt levels rest = EndsOperand rest × (starts (is_operator levels) rest ≡ false)
 
 -- a mark that begins no form after an operand ends a formula
 stop_ends : (levels : List ℕ) (m : Mark) (at : Place) (rest : List Lexeme) → begins_after (mark m at) ≡ false → is_old (mark m at) ≡ false → EndsAt levels (mark m at ∷ rest)
-stop_ends [] m at rest g h = (h, g)
-stop_ends (p ∷ ps) m at rest g h = (stop_ends ps m at rest g h, refl)
+stop_ends levels m at rest g h = ((h, g), refl)
 
 nothing_ends : (levels : List ℕ) → EndsAt levels []
-nothing_ends [] = (refl, refl)
-nothing_ends (p ∷ ps) = (nothing_ends ps, refl)
+nothing_ends levels = ((refl, refl), refl)
 
--- p is none of these
-abbrev IsOther : ℕ → List ℕ → Type 0
-IsOther p [] = Unit {0}
-IsOther p (q ∷ qs) = ((p == q) ≡ false) × IsOther p qs
+operator_ends : (levels : List ℕ) (s : Lexeme) (ts : List Lexeme) → is_operator levels s ≡ true → EndsOperand (s ∷ ts)
+operator_ends levels s ts e = go s.symbol s.at e
+  where
+    go : (y : Symbol) (at : Place) → is_operator levels (record { symbol = y; at = at }) ≡ true → EndsOperand (record { symbol = y; at = at } ∷ ts)
+    go (symbol.Operator o) at e = (refl, refl)
+    go y at e = absurd (cc)
 
-abbrev pub IsApart : List ℕ → Type 0
-IsApart [] = Unit {0}
-IsApart (p ∷ ps) = IsOther p ps × IsApart ps
+-- ---- rows of operands
 
-operator_ends : (p : ℕ) (ps : List ℕ) (y : Symbol) (at : Place) (ts : List Lexeme) → has_priority p (record { symbol = y; at = at }) ≡ true → IsOther p ps → EndsAt ps (record { symbol = y; at = at } ∷ ts)
-operator_ends p [] (symbol.Operator o) at ts e a = (refl, refl)
-operator_ends p (q ∷ qs) (symbol.Operator o) at ts e a =
-    let same : priority o ≡ p = eqb-true (priority o) p e in
-    (operator_ends p qs (symbol.Operator o) at ts e a.1, subst (λ n. (n == q) ≡ false) (sym same) a.0)
-operator_ends p ps y at ts e a = absurd (cc)
-
--- ---- chains
-
-module _ (p : ℕ) (r : Read Formula) (R : Stands Formula) where
-  part_sound : IsSound r R → (s : Lexeme) → IsSound (part p r s) (IsPart p R s)
+module _ (levels : List ℕ) (r : Read Formula) (R : Stands Formula) where
+  part_sound : IsSound r R → (s : Lexeme) → IsSound (part r s) (IsLink R s)
   part_sound sound s = go s.symbol s.at
     where
-      go : (y : Symbol) (at : Place) → IsSound (part p r (record { symbol = y; at = at })) (IsPart p R (record { symbol = y; at = at }))
-      go (symbol.Operator o) at = such_sound (λ l. priority l.0 == p) (made (λ t. (o, at, t)) r) (IsMade (λ t. (o, at, t)) R) (made_sound (λ t. (o, at, t)) r R sound)
+      go : (y : Symbol) (at : Place) → IsSound (part r (record { symbol = y; at = at })) (IsLink R (record { symbol = y; at = at }))
+      go (symbol.Operator o) at = made_sound (λ t. (o, at, t)) r R sound
       go y at = never_sound
 
-  part_complete : (Ends : List Lexeme → Type 0) → IsComplete r R Ends → (s : Lexeme) → IsComplete (part p r s) (IsPart p R s) Ends
-  part_complete Ends complete s = go s.symbol s.at
-    where
-      go : (y : Symbol) (at : Place) → IsComplete (part p r (record { symbol = y; at = at })) (IsPart p R (record { symbol = y; at = at })) Ends
-      go (symbol.Operator o) at = such_complete (λ l. priority l.0 == p) (made (λ t. (o, at, t)) r) (IsMade (λ t. (o, at, t)) R) Ends (made_complete (λ t. (o, at, t)) r R Ends complete)
-      go y at = never_complete Ends
+  operands_sound : IsSound r R → IsSound (operands levels r) (IsOperands R)
+  operands_sound sound = pair_sound r R (each (is_operator levels) (part r)) (IsEach (IsHeaded (IsLink R))) sound (each_sound (is_operator levels) (part r) (IsLink R) (part_sound sound))
 
-  part_opens : (s : Lexeme) (ts : List Lexeme) (l : Part) → IsPart p R s ts l → has_priority p s ≡ true
-  part_opens s ts l c = go s.symbol s.at c
+  tested_complete : IsComplete r R EndsOperand → (s : Lexeme) → IsComplete (part r s) (IsTested levels R s) EndsOperand
+  tested_complete complete s = go s.symbol s.at
     where
-      go : (y : Symbol) (at : Place) → IsPart p R (record { symbol = y; at = at }) ts l → has_priority p (record { symbol = y; at = at }) ≡ true
-      go (symbol.Operator o) at c = ap (λ (l : Part). priority l.0 == p) (sym c.0.2) ∙ c.1
+      go : (y : Symbol) (at : Place) → IsComplete (part r (record { symbol = y; at = at })) (IsTested levels R (record { symbol = y; at = at })) EndsOperand
+      go (symbol.Operator o) at = λ front l rest c k. made_complete (λ t. (o, at, t)) r R EndsOperand complete front l rest c.0 k
+      go y at = never_complete EndsOperand
+
+  tested_opens : (s : Lexeme) (ts : List Lexeme) (l : Part) → IsTested levels R s ts l → is_operator levels s ≡ true
+  tested_opens s ts l c = go s.symbol s.at c
+    where
+      go : (y : Symbol) (at : Place) → IsTested levels R (record { symbol = y; at = at }) ts l → is_operator levels (record { symbol = y; at = at }) ≡ true
+      go (symbol.Operator o) at c = c.1
       go y at c = absurd c
 
-  chain_sound : IsSound r R → IsSound (chained p r) (IsChain p R)
-  chain_sound sound =
-      made_sound
-      chain
-      (such (λ c. may_chain p c.1) (pair r (each (has_priority p) (part p r))))
-      (IsSuch (λ c. may_chain p c.1) (IsPair R (IsEach (IsHeaded (IsPart p R)))))
-      (such_sound
-      (λ c. may_chain p c.1)
-      (pair r (each (has_priority p) (part p r)))
-      (IsPair R (IsEach (IsHeaded (IsPart p R))))
-      (pair_sound r R (each (has_priority p) (part p r)) (IsEach (IsHeaded (IsPart p R))) sound (each_sound (has_priority p) (part p r) (IsPart p R) (part_sound sound))))
-
-  chain_complete : (ps : List ℕ) → IsOther p ps → IsComplete r R (EndsAt ps) → IsComplete (chained p r) (IsChain p R) (EndsAt (p ∷ ps))
-  chain_complete ps other complete =
-      made_complete
-      chain
-      (such (λ c. may_chain p c.1) (pair r (each (has_priority p) (part p r))))
-      (IsSuch (λ c. may_chain p c.1) (IsPair R (IsEach (IsHeaded (IsPart p R)))))
-      (EndsAt (p ∷ ps))
-      (such_complete
-      (λ c. may_chain p c.1)
-      (pair r (each (has_priority p) (part p r)))
-      (IsPair R (IsEach (IsHeaded (IsPart p R))))
-      (EndsAt (p ∷ ps))
-      (pair_complete
+  operands_complete : IsComplete r R EndsOperand → IsComplete (operands levels r) (IsPair R (IsEach (IsHeaded (IsTested levels R)))) (EndsAt levels)
+  operands_complete complete =
+      pair_complete
       r
       R
-      (each (has_priority p) (part p r))
-      (IsEach (IsHeaded (IsPart p R)))
-      (EndsAt ps)
-      (EndsAt (p ∷ ps))
+      (each (is_operator levels) (part r))
+      (IsEach (IsHeaded (IsTested levels R)))
+      EndsOperand
+      (EndsAt levels)
       complete
-      (each_complete (has_priority p) (part p r) (IsPart p R) (EndsAt ps) (part_complete (EndsAt ps) complete) part_opens follow)
-      (λ ts ys rest c k. next_ends (has_priority p) (part p r) (IsPart p R) (EndsAt ps) (part_complete (EndsAt ps) complete) part_opens follow ys ts rest c k.0)))
+      (each_complete (is_operator levels) (part r) (IsTested levels R) EndsOperand (tested_complete complete) tested_opens (operator_ends levels))
+      (λ ts ys rest c k. next_ends (is_operator levels) (part r) (IsTested levels R) EndsOperand (tested_complete complete) tested_opens (operator_ends levels) ys ts rest c k.0)
+
+  cut_sound : IsSound r R → IsSound (cut_at levels r) (IsCutAt levels R)
+  cut_sound sound ts t rest e =
+      let q = found_from (operands levels r ts) (λ x rest. and_left rest (if_some (grouped levels x) alone)) (t, rest) e in
+      let d = operands_sound sound ts q.0 q.1 q.2 in
+      go q.0 q.1 d q.3
     where
-      follow : (s : Lexeme) (ts : List Lexeme) → has_priority p s ≡ true → EndsAt ps (s ∷ ts)
-      follow s ts e = operator_ends p ps s.symbol s.at ts e other
+      left_is : (left : List Lexeme) (o : Option Formula) → and_left left o ≡ Some (t, rest) → (o ≡ Some t) × (left ≡ rest)
+      left_is left None e = absurd (cc)
+      left_is left (Some u) e = let s = same_found u t left rest e in (ap (λ u. Some u) s.0, s.1)
 
-cut_sound : (levels : List ℕ) (r : Read Formula) (R : Stands Formula) → IsSound r R → IsSound (cut_at levels r) (IsCutAt levels R)
-cut_sound [] r R sound = sound
-cut_sound (p ∷ ps) r R sound = chain_sound p (cut_at ps r) (IsCutAt ps R) (cut_sound ps r R sound)
+      go : (x : Row) (left : List Lexeme) → ((front : List Lexeme) × (ts ≡ front ++ left) × IsOperands R front x) → and_left left (if_some (grouped levels x) alone) ≡ Some (t, rest)
+          → (front : List Lexeme) × (ts ≡ front ++ rest) × IsCutAt levels R front t
+      go x left d e =
+          let s = left_is left (if_some (grouped levels x) alone) e in
+          (d.0, d.1 ∙ ap (λ l. d.0 ++ l) s.1, tree_sound levels R x d.0 t d.2 s.0)
 
-cut_complete : (levels : List ℕ) (r : Read Formula) (R : Stands Formula) → IsApart levels → IsComplete r R (EndsAt []) → IsComplete (cut_at levels r) (IsCutAt levels R) (EndsAt levels)
-cut_complete [] r R apart complete = complete
-cut_complete (p ∷ ps) r R apart complete = chain_complete p (cut_at ps r) (IsCutAt ps R) ps apart.0 (cut_complete ps r R apart.1 complete)
+  cut_complete : IsFree levels (λ q. false) → IsComplete r R EndsOperand → IsComplete (cut_at levels r) (IsCutAt levels R) (EndsAt levels)
+  cut_complete free complete front t rest c k =
+      let d = tree_complete levels R front t free c in
+      ap (λ q. with_found q (λ x rest. and_left rest (if_some (grouped levels x) alone))) (operands_complete complete front d.0 rest d.1 k)
+      ∙ ap (λ o. and_left rest (if_some o alone)) d.2
 
 -- ---- commas
 
@@ -635,82 +619,47 @@ module _ (p : List ℕ → Read Formula) (P : List ℕ → Stands Formula) (inne
       go (symbol.Mark sign.SquareOpen) at e = refl
       go y at e = absurd (cc)
 
-  row_complete : IsComplete (spec.whole_row p) (IsRow P) (EndsAt [])
+  row_complete : IsComplete (spec.whole_row p) (IsRow P) EndsOperand
   row_complete =
       made_complete
       row
       (pair (headed (spec.form p)) (each begins_after (spec.one_after p)))
       (IsPair (IsHeaded (IsForm P)) (IsEach (IsHeaded (IsAfter P))))
-      (EndsAt [])
+      EndsOperand
       (pair_complete
       (headed (spec.form p))
       (IsHeaded (IsForm P))
       (each begins_after (spec.one_after p))
       (IsEach (IsHeaded (IsAfter P)))
       NotOld
-      (EndsAt [])
+      EndsOperand
       (headed_complete (spec.form p) (IsForm P) NotOld form_complete)
       (each_complete begins_after (spec.one_after p) (IsAfter P) NotOld after_complete after_opens after_follows)
       (λ ts fs rest c k. next_ends begins_after (spec.one_after p) (IsAfter P) NotOld after_complete after_opens after_follows fs ts rest c k.0))
 
-  operand_complete : IsComplete (spec.operand p) (IsOperand P) (EndsAt [])
+  operand_complete : IsComplete (spec.operand p) (IsOperand P) EndsOperand
   operand_complete [] t rest c k = absurd c
   operand_complete (s ∷ ts) t rest c k = go (is_minus s.symbol) refl c
     where
       go : (b : Bool) → is_minus s.symbol ≡ b → IsSigned P s b ts t → spec.operand p ((s ∷ ts) ++ rest) ≡ Some (t, rest)
-      go true f c = ap (λ b. spec.signed p s b (ts ++ rest)) f ∙ made_complete (formula.Negative s.at) (spec.whole_row p) (IsRow P) (EndsAt []) row_complete ts t rest c k
+      go true f c = ap (λ b. spec.signed p s b (ts ++ rest)) f ∙ made_complete (formula.Negative s.at) (spec.whole_row p) (IsRow P) EndsOperand row_complete ts t rest c k
       go false f c = ap (λ b. spec.signed p s b (ts ++ rest)) f ∙ row_complete (s ∷ ts) t rest c k
 
 -- ---- formulas
 
 -- the priorities of the table differ
 
-abbrev unless : Bool → Bool → Bool
-unless true b = false
-unless false b = b
+pub plain_free : IsFree plain (λ q. false)
+plain_free = (refl, (refl, (refl, (refl, (refl, (refl, (refl, (refl, (refl, (refl, tt))))))))))
 
-abbrev all_other : ℕ → List ℕ → Bool
-all_other p [] = true
-all_other p (q ∷ qs) = unless (p == q) (all_other p qs)
-
-abbrev when : Bool → Bool → Bool
-when true b = b
-when false b = false
-
-abbrev all_apart : List ℕ → Bool
-all_apart [] = true
-all_apart (p ∷ ps) = when (all_other p ps) (all_apart ps)
-
-other : (p : ℕ) (qs : List ℕ) → all_other p qs ≡ true → IsOther p qs
-other p [] e = tt
-other p (q ∷ qs) e = go (p == q) refl e (other p qs)
-  where
-    go : (b : Bool) → (p == q) ≡ b → unless b (all_other p qs) ≡ true → (all_other p qs ≡ true → IsOther p qs) → IsOther p (q ∷ qs)
-    go true f e more = absurd (cc)
-    go false f e more = (f, more e)
-
-apart : (ps : List ℕ) → all_apart ps ≡ true → IsApart ps
-apart [] e = tt
-apart (p ∷ ps) e = go (all_other p ps) refl e (apart ps)
-  where
-    go : (b : Bool) → all_other p ps ≡ b → when b (all_apart ps) ≡ true → (all_apart ps ≡ true → IsApart ps) → IsApart (p ∷ ps)
-    go true f e more = (other p ps f, more e)
-    go false f e more = absurd (cc)
-
-pub plain_apart : IsApart plain
-plain_apart = apart plain refl
-
-pub bracketed_apart : IsApart bracketed
-bracketed_apart = apart bracketed refl
+pub bracketed_free : IsFree bracketed (λ q. false)
+bracketed_free = (refl, (refl, (refl, (refl, (refl, (refl, (refl, (refl, (refl, (refl, (refl, tt)))))))))))
 
 -- nothing begins with a closing bracket
 
 cut_none : (levels : List ℕ) (r : Read Formula) (ts : List Lexeme) → r ts ≡ None → cut_at levels r ts ≡ None
-cut_none [] r ts e = e
-cut_none (p ∷ ps) r ts e =
-    ap
-    (λ q. with_found (with_found (with_found q (λ x rest. spec.and_also x (each (has_priority p) (part p (cut_at ps r)) rest))) (λ c rest. spec.closed c (may_chain p c.1) rest)) (λ c rest. Some (chain c, rest)))
-    (cut_none ps r ts e)
+cut_none levels r ts e =
+    ap (λ q. with_found (with_found q (λ x rest. spec.and_also x (each (is_operator levels) (part r) rest))) (λ x rest. and_left rest (if_some (grouped levels x) alone))) e
 
 operand_none : (p : List ℕ → Read Formula) (m : Mark) (at : Place) (rest : List Lexeme) → is_closing m ≡ true → spec.operand p (mark m at ∷ rest) ≡ None
 operand_none p sign.RoundClose at rest e = refl
@@ -718,7 +667,7 @@ operand_none p sign.CurlyClose at rest e = refl
 operand_none p sign.SquareClose at rest e = refl
 operand_none p m at rest e = absurd (cc)
 
-formula_none : (depth : ℕ) (levels : List ℕ) (m : Mark) (at : Place) (rest : List Lexeme) → is_closing m ≡ true → reads_formula depth levels (mark m at ∷ rest) ≡ None
+pub formula_none : (depth : ℕ) (levels : List ℕ) (m : Mark) (at : Place) (rest : List Lexeme) → is_closing m ≡ true → reads_formula depth levels (mark m at ∷ rest) ≡ None
 unfolding reads_formula
 formula_none zero levels m at rest e = cut_none levels (spec.operand (λ ps. never)) (mark m at ∷ rest) (operand_none (λ ps. never) m at rest e)
 formula_none (suc depth) levels m at rest e = cut_none levels (spec.operand (reads_formula depth)) (mark m at ∷ rest) (operand_none (reads_formula depth) m at rest e)
@@ -728,29 +677,29 @@ unfolding reads_formula IsFormula
 formula_sound zero levels = cut_sound levels (spec.operand (λ ps. never)) (IsOperand (λ ps. IsNever)) (operand_sound (λ ps. never) (λ ps. IsNever) (λ ps. never_sound))
 formula_sound (suc depth) levels = cut_sound levels (spec.operand (reads_formula depth)) (IsOperand (IsFormula depth)) (operand_sound (reads_formula depth) (IsFormula depth) (formula_sound depth))
 
-pub formula_complete : (depth : ℕ) (levels : List ℕ) → IsApart levels → IsComplete (reads_formula depth levels) (IsFormula depth levels) (EndsAt levels)
+pub formula_complete : (depth : ℕ) (levels : List ℕ) → IsFree levels (λ q. false) → IsComplete (reads_formula depth levels) (IsFormula depth levels) (EndsAt levels)
 unfolding reads_formula IsFormula
-formula_complete zero levels apart =
+formula_complete zero levels free =
     cut_complete
     levels
     (spec.operand (λ ps. never))
     (IsOperand (λ ps. IsNever))
-    apart
+    free
     (operand_complete (λ ps. never) (λ ps. IsNever) (never_complete (EndsAt bracketed)) (never_complete (EndsAt plain)) (λ m at rest e. refl))
-formula_complete (suc depth) levels apart =
+formula_complete (suc depth) levels free =
     cut_complete
     levels
     (spec.operand (reads_formula depth))
     (IsOperand (IsFormula depth))
-    apart
-    (operand_complete (reads_formula depth) (IsFormula depth) (formula_complete depth bracketed bracketed_apart) (formula_complete depth plain plain_apart) (formula_none depth bracketed))
+    free
+    (operand_complete (reads_formula depth) (IsFormula depth) (formula_complete depth bracketed bracketed_free) (formula_complete depth plain plain_free) (formula_none depth bracketed))
 
 -- all of the lexemes are read exactly where they are a formula
 pub all_read : (depth : ℕ) (ts : List Lexeme) (t : Formula) → reads_formula depth plain ts ≡ Some (t, []) → IsFormula depth plain ts t
 all_read depth ts t e = let s = formula_sound depth plain ts t [] e in subst (λ (l : List Lexeme). IsFormula depth plain l t) (sym (s.1 ∙ append-nil s.0)) s.2
 
 pub is_read : (depth : ℕ) (ts : List Lexeme) (t : Formula) → IsFormula depth plain ts t → reads_formula depth plain ts ≡ Some (t, [])
-is_read depth ts t c = ap (reads_formula depth plain) (sym (append-nil ts)) ∙ formula_complete depth plain plain_apart ts t [] c (nothing_ends plain)
+is_read depth ts t c = ap (reads_formula depth plain) (sym (append-nil ts)) ∙ formula_complete depth plain plain_free ts t [] c (nothing_ends plain)
 
 -- a list of lexemes stands for at most one tree
 pub one_tree : (depth : ℕ) (ts : List Lexeme) (t u : Formula) → IsFormula depth plain ts t → IsFormula depth plain ts u → t ≡ u

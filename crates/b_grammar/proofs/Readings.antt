@@ -3,7 +3,7 @@ use Rattle.std.proofs.Common.{◌≡◌, List, [], ◌∷◌, Option, Some, None
 use Rattle.b_ast.specs.declared.Formula.{Formula}
 use Rattle.b_grammar.specs.declared.Lexeme.{Lexeme}
 use Rattle.b_grammar.specs.Grammar.{IsFormula, plain}
-use Rattle.b_grammar.specs.Descent.{Found, reads_formula}
+use Rattle.b_grammar.specs.Descent.{Found, grouped, reads_formula}
 use Rattle.b_grammar.specs.Readings.{AreReadings}
 use Rattle.b_grammar.proofs.Descent.{all_read, is_read}
 
@@ -23,7 +23,7 @@ nothing ts e t c =
     cc
 
 pub readings : AreReadings
-unfolding reads_formula
+unfolding reads_formula grouped
 readings = record {
   minus_is_a_chain = all_read 100 _ _ refl;
   brackets_make_a_chain_of_chains = all_read 100 _ _ refl;
@@ -32,6 +32,8 @@ readings = record {
   power_is_a_chain = all_read 100 _ _ refl;
   or_and_and_have_one_priority = all_read 100 _ _ refl;
   applications_are_a_row = all_read 100 _ _ refl;
+  brackets_are_no_nodes = all_read 100 _ _ refl;
+  bare_application = all_read 100 _ _ refl;
   arguments_keep_their_comma = all_read 100 _ _ refl;
   converse_and_image_are_a_row = all_read 100 _ _ refl;
   the_old_value = all_read 100 _ _ refl;

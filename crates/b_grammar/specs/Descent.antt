@@ -1,6 +1,6 @@
 -- Reading by descent: what stands at the front of a list of lexemes, and what is left. Only private functions' clauses
 -- cite this; what it has to do with the grammar is proved.
-use Rattle.std.specs.Prelude.{ℕ, zero, suc, Bool, true, false, List, [], ◌∷◌, Option, Some, None, length, ◌==◌}
+use Rattle.std.specs.Prelude.{ℕ, zero, suc, Bool, true, false, ◌||◌, List, [], ◌∷◌, Option, Some, None, length, ◌==◌}
 use denote.Enum.Bare.{sameb}
 use Rattle.b_ast.specs.declared.Place.{Place}
 use Rattle.b_ast.specs.declared.Bound.{Bound}
@@ -95,28 +95,92 @@ otherwise (Some p) q = Some p
 abbrev pub or_else : {A : Type 0} → Read A → Read A → Read A
 or_else r s ts = otherwise (r ts) (s ts)
 
--- ---- pieces
+-- ---- operators: a row of operands is read at once, and then its parts are gathered, the tightest priority first
 
-abbrev pub has_priority : ℕ → Lexeme → Bool
-has_priority p s = of s.symbol
+-- whether a priority is one of these, or was found before
+abbrev pub is_among : List ℕ → Bool → ℕ → Bool
+is_among [] found q = found
+is_among (p ∷ ps) found q = is_among ps ((q == p) || found) q
+
+-- an operator of one of these priorities
+abbrev pub is_operator : List ℕ → Lexeme → Bool
+is_operator levels s = of s.symbol
   where
     of : Symbol → Bool
-    of (symbol.Operator o) = priority o == p
+    of (symbol.Operator o) = is_among levels false (priority o)
     of x = false
 
-abbrev pub part : ℕ → Read Formula → Lexeme → Read Part
-part p r s = of s.symbol
+-- an operator and the operand after it
+abbrev pub part : Read Formula → Lexeme → Read Part
+part r s = of s.symbol
   where
     of : Symbol → Read Part
-    of (symbol.Operator o) = such (λ l. priority l.0 == p) (made (λ t. (o, s.at, t)) r)
+    of (symbol.Operator o) = made (λ t. (o, s.at, t)) r
     of x = never
 
-abbrev pub chained : ℕ → Read Formula → Read Formula
-chained p r = made chain (such (λ c. may_chain p c.1) (pair r (each (has_priority p) (part p r))))
+-- an operand and parts after it
+abbrev pub Row : Type 0
+Row = Formula × List Part
+
+abbrev pub operands : List ℕ → Read Formula → Read Row
+operands levels r = pair r (each (is_operator levels) (part r))
+
+abbrev pub if_some : {A B : Type 0} → Option A → (A → Option B) → Option B
+if_some None f = None
+if_some (Some x) f = f x
+
+-- pieces as a chain, if they may stand in one
+abbrev pub chain_if : Bool → Formula → List Part → Option Formula
+chain_if true t ls = Some (chain (t, ls))
+chain_if false t ls = None
+
+abbrev pub chain_at : ℕ → Formula → List Part → Option Formula
+chain_at p t ls = chain_if (may_chain p ls) t ls
+
+-- the parts of the first chain, and the other parts with their chains
+abbrev pub Gathered : Type 0
+Gathered = List Part × List Part
+
+-- a part before gathered ones goes on the first chain, or that chain is the part's operand
+abbrev pub before_by : Bool → ℕ → Part → Gathered → Option Gathered
+before_by true p l g = Some (l ∷ g.0, g.1)
+before_by false p l g = if_some (chain_at p l.2 g.0) (λ t. Some ([], (l.0, l.1, t) ∷ g.1))
+
+abbrev pub before : ℕ → Part → Gathered → Option Gathered
+before p l g = before_by (priority l.0 == p) p l g
+
+-- the chains of one priority
+abbrev pub gathered : ℕ → List Part → Option Gathered
+gathered p [] = Some ([], [])
+gathered p (l ∷ ls) = if_some (gathered p ls) (before p l)
+
+abbrev pub row_of : ℕ → Formula → Gathered → Option Row
+row_of p t g = if_some (chain_at p t g.0) (λ u. Some (u, g.1))
+
+abbrev pub merged : ℕ → Row → Option Row
+merged p x = if_some (gathered p x.1) (row_of p x.0)
+
+-- the chains of these priorities, the loosest first
+unfoldable pub grouped : List ℕ → Row → Option Row
+grouped [] x = Some x
+grouped (p ∷ ps) x = if_some (grouped ps x) (merged p)
+
+-- an operand with no part after it
+abbrev pub alone : Row → Option Formula
+alone x = of x.1
+  where
+    of : List Part → Option Formula
+    of [] = Some x.0
+    of (l ∷ ls) = None
+
+abbrev pub and_left : {A : Type 0} → List Lexeme → Option A → Found A
+and_left rest None = None
+and_left rest (Some x) = Some (x, rest)
 
 abbrev pub cut_at : List ℕ → Read Formula → Read Formula
-cut_at [] r = r
-cut_at (p ∷ ps) r = chained p (cut_at ps r)
+cut_at levels r ts = with_found (operands levels r ts) (λ x rest. and_left rest (if_some (grouped levels x) alone))
+
+-- ---- commas
 
 abbrev pub is_comma : Lexeme → Bool
 is_comma s = is_mark sign.Comma (mark_of s.symbol)

@@ -102,6 +102,15 @@ pub record AreReadings : Type 0 where
       StandsFor
       (name (codes "f") ∷ m sign.RoundOpen ∷ n 1 ∷ m sign.RoundClose ∷ m sign.RoundOpen ∷ n 2 ∷ m sign.RoundClose ∷ [])
       (formula.Row (name_at 0 (codes "f")) (after.Apply (place 1) (number_at 2 1) ∷ after.Apply (place 4) (number_at 5 2) ∷ []))
+  -- (d)(1), as d(1): brackets are no nodes
+  pub brackets_are_no_nodes :
+      StandsFor
+      (m sign.RoundOpen ∷ name (codes "d") ∷ m sign.RoundClose ∷ m sign.RoundOpen ∷ n 1 ∷ m sign.RoundClose ∷ [])
+      (formula.Row (name_at 1 (codes "d")) (after.Apply (place 3) (number_at 4 1) ∷ []))
+  pub bare_application :
+      StandsFor
+      (name (codes "d") ∷ m sign.RoundOpen ∷ n 1 ∷ m sign.RoundClose ∷ [])
+      (formula.Row (name_at 0 (codes "d")) (after.Apply (place 1) (number_at 2 1) ∷ []))
   -- f(1,2)
   pub arguments_keep_their_comma :
       StandsFor

@@ -1,5 +1,6 @@
 -- What tokens are to the grammar: signs and words by a table of spellings, names, numbers and strings by their values.
-use Rattle.std.specs.Prelude.{ℕ, Bool, true, false, ◌==◌, ◌+◌, ◌-◌, ◌^◌, nat_le, nat_lt, List, [], ◌∷◌, length, codes, if◌then◌else◌}
+use Rattle.std.specs.Prelude.{ℕ, Bool, false, ◌+◌, ◌-◌, ◌^◌, nat_le, nat_lt, List, [], ◌∷◌, length, map, codes, if◌then◌else◌}
+use denote.Ref.{Bor}
 use Rattle.std.specs.Str.{bytes_eq}
 use Rattle.std.specs.List.{slice_range}
 use Rattle.b_ast.specs.declared.Constant.TheVariants as constant
@@ -13,6 +14,7 @@ use Rattle.b_lex.specs.declared.tokens.TokenKind.TheVariants as kind
 use Rattle.b_lex.specs.Bytes.{decimal}
 use Rattle.b_lex.specs.Tables.{has_entry}
 use Rattle.b_lex.specs.Reading.{spelling}
+use Rattle.b_lex.specs.Spelling.{unescape}
 use Rattle.b_grammar.specs.declared.Mark.TheVariants as sign
 use Rattle.b_grammar.specs.declared.Symbol.{Symbol}
 use Rattle.b_grammar.specs.declared.Symbol.TheVariants as symbol
@@ -139,6 +141,10 @@ spellings =
     ∷ (codes "END", fixed.Mark sign.End)
     ∷ []
 
+-- entries of a table in code
+abbrev pub entries : List (Bor (List ℕ) × Fixed) → List (List ℕ × Fixed)
+entries table = map (λ e. (e.0.now, e.1)) table
+
 abbrev pub lookup : List (List ℕ × Fixed) → List ℕ → Fixed
 lookup [] word = fixed.Other
 lookup (e ∷ es) word = if bytes_eq e.0 word then e.1 else lookup es word
@@ -155,18 +161,9 @@ symbol_of_fixed (fixed.Collector c) = symbol.Collector c
 symbol_of_fixed (fixed.Mark m) = symbol.Mark m
 symbol_of_fixed fixed.Other = symbol.Other
 
--- what a byte behind a backslash stands for: `\n` and `\t` for LF and tab, another for itself
-abbrev pub escaped : ℕ → ℕ
-escaped letter = if letter == 110 then 10 else if letter == 116 then 9 else letter
-
--- the bytes between a string's quotes by their values, from behind a backslash or not
-abbrev pub value_from : Bool → List ℕ → List ℕ
-value_from b [] = []
-value_from true (c ∷ cs) = escaped c ∷ value_from false cs
-value_from false (c ∷ cs) = if c == 92 then value_from true cs else c ∷ value_from false cs
-
+-- the bytes between a string's quotes by their values
 abbrev pub string_value : List ℕ → List ℕ
-string_value body = value_from false body
+string_value body = unescape false body
 
 -- without the quotes
 abbrev pub between : List ℕ → List ℕ

@@ -1,12 +1,13 @@
 //! What each token is to the grammar.
-ghost use Rattle.std.specs.Prelude.{◌≡◌, ◌≤◌, map, IfOk, length};
+ghost use Rattle.std.specs.Prelude.{◌≡◌, ◌<◌, ◌≤◌, ◌%◌, [], map, filter, IfOk, length, slice_index_or};
 ghost use Rattle.b_lex.specs.Reading.{AreSpans};
+ghost use Rattle.b_lex.specs.Tables.{is_in_row};
 ghost use Rattle.b_grammar.specs.Symbols as spec;
 
 use crate::brackets::depth_after;
 use crate::{Lexeme, Mark, Symbol};
 use b_ast::{Collector, Constant, Function, Operator, Place, Quantifier};
-use b_lex::{Token, TokenKind, number_value, token_text};
+use b_lex::{Token, TokenKind, number_value, text_value, token_text};
 use sqlite_items::Items;
 use std::alloc::{AllocError, Global};
 
@@ -22,126 +23,197 @@ pub enum Fixed {
     Other,
 }
 
-// The signs and words of formulas.
-const SPELLINGS: [(&[u8], Fixed); 114] = [
-    (b"**", Fixed::Operator(Operator::Power)),
-    (b"*", Fixed::Operator(Operator::Times)),
-    (b"/", Fixed::Operator(Operator::Divide)),
-    (b"mod", Fixed::Operator(Operator::Modulo)),
-    (b"+", Fixed::Operator(Operator::Plus)),
-    (b"-", Fixed::Operator(Operator::Minus)),
-    (b"..", Fixed::Operator(Operator::Interval)),
-    (b"|->", Fixed::Operator(Operator::Maplet)),
-    (b"\\/", Fixed::Operator(Operator::Union)),
-    (b"/\\", Fixed::Operator(Operator::Intersection)),
-    (b"^", Fixed::Operator(Operator::Concatenation)),
-    (b"->", Fixed::Operator(Operator::Prepend)),
-    (b"<-", Fixed::Operator(Operator::Append)),
-    (b"/|\\", Fixed::Operator(Operator::Take)),
-    (b"\\|/", Fixed::Operator(Operator::Drop)),
-    (b"<|", Fixed::Operator(Operator::DomainRestriction)),
-    (b"|>", Fixed::Operator(Operator::RangeRestriction)),
-    (b"<<|", Fixed::Operator(Operator::DomainSubtraction)),
-    (b"|>>", Fixed::Operator(Operator::RangeSubtraction)),
-    (b"<+", Fixed::Operator(Operator::Overriding)),
-    (b"><", Fixed::Operator(Operator::DirectProduct)),
-    (b"<->", Fixed::Operator(Operator::Relations)),
-    (b"+->", Fixed::Operator(Operator::PartialFunctions)),
-    (b"-->", Fixed::Operator(Operator::TotalFunctions)),
-    (b">+>", Fixed::Operator(Operator::PartialInjections)),
-    (b">->", Fixed::Operator(Operator::TotalInjections)),
-    (b"+->>", Fixed::Operator(Operator::PartialSurjections)),
-    (b"-->>", Fixed::Operator(Operator::TotalSurjections)),
-    (b">->>", Fixed::Operator(Operator::TotalBijections)),
-    (b":", Fixed::Operator(Operator::Member)),
-    (b"/:", Fixed::Operator(Operator::NotMember)),
-    (b"<:", Fixed::Operator(Operator::Subset)),
-    (b"/<:", Fixed::Operator(Operator::NotSubset)),
-    (b"<<:", Fixed::Operator(Operator::StrictSubset)),
-    (b"/<<:", Fixed::Operator(Operator::NotStrictSubset)),
-    (b"=", Fixed::Operator(Operator::Equal)),
-    (b"/=", Fixed::Operator(Operator::NotEqual)),
-    (b"<", Fixed::Operator(Operator::Less)),
-    (b">", Fixed::Operator(Operator::Greater)),
-    (b"<=", Fixed::Operator(Operator::LessOrEqual)),
-    (b">=", Fixed::Operator(Operator::GreaterOrEqual)),
-    (b"<=>", Fixed::Operator(Operator::Equivalence)),
-    (b"&", Fixed::Operator(Operator::And)),
-    (b"or", Fixed::Operator(Operator::Or)),
-    (b"=>", Fixed::Operator(Operator::Implication)),
-    (b";", Fixed::Operator(Operator::Composition)),
-    (b"||", Fixed::Operator(Operator::ParallelProduct)),
-    (b"POW", Fixed::Function(Function::Pow)),
-    (b"POW1", Fixed::Function(Function::Pow1)),
-    (b"FIN", Fixed::Function(Function::Fin)),
-    (b"FIN1", Fixed::Function(Function::Fin1)),
-    (b"union", Fixed::Function(Function::Union)),
-    (b"inter", Fixed::Function(Function::Inter)),
-    (b"dom", Fixed::Function(Function::Dom)),
-    (b"ran", Fixed::Function(Function::Ran)),
-    (b"id", Fixed::Function(Function::Id)),
-    (b"closure", Fixed::Function(Function::Closure)),
-    (b"closure1", Fixed::Function(Function::Closure1)),
-    (b"card", Fixed::Function(Function::Card)),
-    (b"min", Fixed::Function(Function::Min)),
-    (b"max", Fixed::Function(Function::Max)),
-    (b"succ", Fixed::Function(Function::Succ)),
-    (b"pred", Fixed::Function(Function::Pred)),
-    (b"seq", Fixed::Function(Function::Seq)),
-    (b"seq1", Fixed::Function(Function::Seq1)),
-    (b"iseq", Fixed::Function(Function::Iseq)),
-    (b"perm", Fixed::Function(Function::Perm)),
-    (b"size", Fixed::Function(Function::Size)),
-    (b"first", Fixed::Function(Function::First)),
-    (b"last", Fixed::Function(Function::Last)),
-    (b"front", Fixed::Function(Function::Front)),
-    (b"tail", Fixed::Function(Function::Tail)),
-    (b"rev", Fixed::Function(Function::Rev)),
-    (b"conc", Fixed::Function(Function::Conc)),
-    (b"bool", Fixed::Function(Function::Bool)),
-    (b"not", Fixed::Function(Function::Not)),
-    (b"prj1", Fixed::Function(Function::Prj1)),
-    (b"prj2", Fixed::Function(Function::Prj2)),
-    (b"iterate", Fixed::Function(Function::Iterate)),
-    (b"INTEGER", Fixed::Constant(Constant::Integer)),
-    (b"NATURAL", Fixed::Constant(Constant::Natural)),
-    (b"NATURAL1", Fixed::Constant(Constant::Natural1)),
-    (b"INT", Fixed::Constant(Constant::Int)),
-    (b"NAT", Fixed::Constant(Constant::Nat)),
-    (b"NAT1", Fixed::Constant(Constant::Nat1)),
-    (b"STRING", Fixed::Constant(Constant::String)),
-    (b"BOOL", Fixed::Constant(Constant::Bool)),
-    (b"TRUE", Fixed::Constant(Constant::True)),
-    (b"FALSE", Fixed::Constant(Constant::False)),
-    (b"MININT", Fixed::Constant(Constant::MinInt)),
-    (b"MAXINT", Fixed::Constant(Constant::MaxInt)),
-    (b"#", Fixed::Quantifier(Quantifier::Exists)),
-    (b"!", Fixed::Quantifier(Quantifier::ForAll)),
-    (b"%", Fixed::Collector(Collector::Lambda)),
-    (b"SIGMA", Fixed::Collector(Collector::Sum)),
-    (b"PI", Fixed::Collector(Collector::Product)),
-    (b"UNION", Fixed::Collector(Collector::Union)),
-    (b"INTER", Fixed::Collector(Collector::Inter)),
-    (b"(", Fixed::Mark(Mark::RoundOpen)),
-    (b")", Fixed::Mark(Mark::RoundClose)),
-    (b"{", Fixed::Mark(Mark::CurlyOpen)),
-    (b"}", Fixed::Mark(Mark::CurlyClose)),
-    (b"[", Fixed::Mark(Mark::SquareOpen)),
-    (b"]", Fixed::Mark(Mark::SquareClose)),
-    (b",", Fixed::Mark(Mark::Comma)),
-    (b".", Fixed::Mark(Mark::Dot)),
-    (b"|", Fixed::Mark(Mark::Bar)),
-    (b"~", Fixed::Mark(Mark::Converse)),
-    (b"<>", Fixed::Mark(Mark::Empty)),
-    (b"$0", Fixed::Mark(Mark::Old)),
-    (b"IF", Fixed::Mark(Mark::If)),
-    (b"THEN", Fixed::Mark(Mark::Then)),
-    (b"ELSE", Fixed::Mark(Mark::Else)),
-    (b"END", Fixed::Mark(Mark::End)),
+// The signs and words of formulas, in rows by their first byte modulo 59.
+const SPELLINGS: [&[(&[u8], Fixed)]; 59] = [
+    &[(b";", Fixed::Operator(Operator::Composition))],
+    &[
+        (b"<-", Fixed::Operator(Operator::Append)),
+        (b"<|", Fixed::Operator(Operator::DomainRestriction)),
+        (b"<<|", Fixed::Operator(Operator::DomainSubtraction)),
+        (b"<+", Fixed::Operator(Operator::Overriding)),
+        (b"<->", Fixed::Operator(Operator::Relations)),
+        (b"<:", Fixed::Operator(Operator::Subset)),
+        (b"<<:", Fixed::Operator(Operator::StrictSubset)),
+        (b"<", Fixed::Operator(Operator::Less)),
+        (b"<=", Fixed::Operator(Operator::LessOrEqual)),
+        (b"<=>", Fixed::Operator(Operator::Equivalence)),
+        (b"<>", Fixed::Mark(Mark::Empty)),
+    ],
+    &[
+        (b"=", Fixed::Operator(Operator::Equal)),
+        (b"=>", Fixed::Operator(Operator::Implication)),
+    ],
+    &[
+        (b"><", Fixed::Operator(Operator::DirectProduct)),
+        (b">+>", Fixed::Operator(Operator::PartialInjections)),
+        (b">->", Fixed::Operator(Operator::TotalInjections)),
+        (b">->>", Fixed::Operator(Operator::TotalBijections)),
+        (b">", Fixed::Operator(Operator::Greater)),
+        (b">=", Fixed::Operator(Operator::GreaterOrEqual)),
+    ],
+    &[],
+    &[(b"{", Fixed::Mark(Mark::CurlyOpen))],
+    &[
+        (b"|->", Fixed::Operator(Operator::Maplet)),
+        (b"|>", Fixed::Operator(Operator::RangeRestriction)),
+        (b"|>>", Fixed::Operator(Operator::RangeSubtraction)),
+        (b"||", Fixed::Operator(Operator::ParallelProduct)),
+        (b"|", Fixed::Mark(Mark::Bar)),
+    ],
+    &[
+        (b"BOOL", Fixed::Constant(Constant::Bool)),
+        (b"}", Fixed::Mark(Mark::CurlyClose)),
+    ],
+    &[(b"~", Fixed::Mark(Mark::Converse))],
+    &[],
+    &[
+        (b"ELSE", Fixed::Mark(Mark::Else)),
+        (b"END", Fixed::Mark(Mark::End)),
+    ],
+    &[
+        (b"FIN", Fixed::Function(Function::Fin)),
+        (b"FIN1", Fixed::Function(Function::Fin1)),
+        (b"FALSE", Fixed::Constant(Constant::False)),
+    ],
+    &[],
+    &[],
+    &[
+        (b"INTEGER", Fixed::Constant(Constant::Integer)),
+        (b"INT", Fixed::Constant(Constant::Int)),
+        (b"INTER", Fixed::Collector(Collector::Inter)),
+        (b"IF", Fixed::Mark(Mark::If)),
+    ],
+    &[],
+    &[],
+    &[],
+    &[
+        (b"MININT", Fixed::Constant(Constant::MinInt)),
+        (b"MAXINT", Fixed::Constant(Constant::MaxInt)),
+    ],
+    &[
+        (b"NATURAL", Fixed::Constant(Constant::Natural)),
+        (b"NATURAL1", Fixed::Constant(Constant::Natural1)),
+        (b"NAT", Fixed::Constant(Constant::Nat)),
+        (b"NAT1", Fixed::Constant(Constant::Nat1)),
+    ],
+    &[],
+    &[
+        (b"POW", Fixed::Function(Function::Pow)),
+        (b"POW1", Fixed::Function(Function::Pow1)),
+        (b"PI", Fixed::Collector(Collector::Product)),
+    ],
+    &[],
+    &[],
+    &[
+        (b"STRING", Fixed::Constant(Constant::String)),
+        (b"SIGMA", Fixed::Collector(Collector::Sum)),
+    ],
+    &[
+        (b"TRUE", Fixed::Constant(Constant::True)),
+        (b"THEN", Fixed::Mark(Mark::Then)),
+    ],
+    &[(b"UNION", Fixed::Collector(Collector::Union))],
+    &[],
+    &[],
+    &[],
+    &[],
+    &[],
+    &[(b"[", Fixed::Mark(Mark::SquareOpen))],
+    &[
+        (b"\\/", Fixed::Operator(Operator::Union)),
+        (b"\\|/", Fixed::Operator(Operator::Drop)),
+        (b"!", Fixed::Quantifier(Quantifier::ForAll)),
+    ],
+    &[(b"]", Fixed::Mark(Mark::SquareClose))],
+    &[
+        (b"^", Fixed::Operator(Operator::Concatenation)),
+        (b"#", Fixed::Quantifier(Quantifier::Exists)),
+    ],
+    &[(b"$0", Fixed::Mark(Mark::Old))],
+    &[(b"%", Fixed::Collector(Collector::Lambda))],
+    &[(b"&", Fixed::Operator(Operator::And))],
+    &[(b"bool", Fixed::Function(Function::Bool))],
+    &[
+        (b"closure", Fixed::Function(Function::Closure)),
+        (b"closure1", Fixed::Function(Function::Closure1)),
+        (b"card", Fixed::Function(Function::Card)),
+        (b"conc", Fixed::Function(Function::Conc)),
+        (b"(", Fixed::Mark(Mark::RoundOpen)),
+    ],
+    &[
+        (b"dom", Fixed::Function(Function::Dom)),
+        (b")", Fixed::Mark(Mark::RoundClose)),
+    ],
+    &[
+        (b"**", Fixed::Operator(Operator::Power)),
+        (b"*", Fixed::Operator(Operator::Times)),
+    ],
+    &[
+        (b"+", Fixed::Operator(Operator::Plus)),
+        (b"+->", Fixed::Operator(Operator::PartialFunctions)),
+        (b"+->>", Fixed::Operator(Operator::PartialSurjections)),
+        (b"first", Fixed::Function(Function::First)),
+        (b"front", Fixed::Function(Function::Front)),
+    ],
+    &[(b",", Fixed::Mark(Mark::Comma))],
+    &[
+        (b"-", Fixed::Operator(Operator::Minus)),
+        (b"->", Fixed::Operator(Operator::Prepend)),
+        (b"-->", Fixed::Operator(Operator::TotalFunctions)),
+        (b"-->>", Fixed::Operator(Operator::TotalSurjections)),
+    ],
+    &[
+        (b"..", Fixed::Operator(Operator::Interval)),
+        (b"inter", Fixed::Function(Function::Inter)),
+        (b"id", Fixed::Function(Function::Id)),
+        (b"iseq", Fixed::Function(Function::Iseq)),
+        (b"iterate", Fixed::Function(Function::Iterate)),
+        (b".", Fixed::Mark(Mark::Dot)),
+    ],
+    &[
+        (b"/", Fixed::Operator(Operator::Divide)),
+        (b"/\\", Fixed::Operator(Operator::Intersection)),
+        (b"/|\\", Fixed::Operator(Operator::Take)),
+        (b"/:", Fixed::Operator(Operator::NotMember)),
+        (b"/<:", Fixed::Operator(Operator::NotSubset)),
+        (b"/<<:", Fixed::Operator(Operator::NotStrictSubset)),
+        (b"/=", Fixed::Operator(Operator::NotEqual)),
+    ],
+    &[],
+    &[(b"last", Fixed::Function(Function::Last))],
+    &[
+        (b"mod", Fixed::Operator(Operator::Modulo)),
+        (b"min", Fixed::Function(Function::Min)),
+        (b"max", Fixed::Function(Function::Max)),
+    ],
+    &[(b"not", Fixed::Function(Function::Not))],
+    &[(b"or", Fixed::Operator(Operator::Or))],
+    &[
+        (b"pred", Fixed::Function(Function::Pred)),
+        (b"perm", Fixed::Function(Function::Perm)),
+        (b"prj1", Fixed::Function(Function::Prj1)),
+        (b"prj2", Fixed::Function(Function::Prj2)),
+    ],
+    &[],
+    &[
+        (b"ran", Fixed::Function(Function::Ran)),
+        (b"rev", Fixed::Function(Function::Rev)),
+    ],
+    &[
+        (b"succ", Fixed::Function(Function::Succ)),
+        (b"seq", Fixed::Function(Function::Seq)),
+        (b"seq1", Fixed::Function(Function::Seq1)),
+        (b"size", Fixed::Function(Function::Size)),
+    ],
+    &[(b"tail", Fixed::Function(Function::Tail))],
+    &[
+        (b":", Fixed::Operator(Operator::Member)),
+        (b"union", Fixed::Function(Function::Union)),
+    ],
 ];
 
 fn lookup(mut table: &[(&[u8], Fixed)], spelling: &[u8]) -> Fixed
-    ensures { result ≡ spec.lookup (map (λ e. (e.0.now, e.1)) table.entry.now) spelling.now }
+    ensures { result ≡ spec.lookup (spec.entries table.entry.now) spelling.now }
 {
     while let [entry, rest @ ..] = table {
         if entry.0 == spelling {
@@ -152,10 +224,31 @@ fn lookup(mut table: &[(&[u8], Fixed)], spelling: &[u8]) -> Fixed
     Fixed::Other
 }
 
+// One row of a table.
+fn row_of(
+    table: &[&'static [(&'static [u8], Fixed)]],
+    row: usize,
+) -> &'static [(&'static [u8], Fixed)]
+    requires { row < length table.now }
+    ensures { spec.entries result.now ≡ slice_index_or (map (λ r. spec.entries r.now) table.now) row [] }
+{
+    table[row]
+}
+
+// The signs and words that may begin with this byte.
+fn spellings_with(first: u8) -> &'static [(&'static [u8], Fixed)]
+    ensures { spec.entries result.now ≡ filter (λ e. is_in_row 59 (first % 59) e.0) spec.spellings }
+{
+    row_of(&SPELLINGS, (first % 59) as usize)
+}
+
 fn find_fixed(spelling: &[u8]) -> Fixed
     ensures { result ≡ spec.fixed_of spelling.now }
 {
-    lookup(&SPELLINGS, spelling)
+    match spelling {
+        [] => Fixed::Other,
+        [first, ..] => lookup(spellings_with(*first), spelling),
+    }
 }
 
 fn symbol_of_fixed(fixed: Fixed) -> Symbol
@@ -172,46 +265,6 @@ fn symbol_of_fixed(fixed: Fixed) -> Symbol
     }
 }
 
-fn escaped(letter: u8) -> u8
-    ensures { result ≡ spec.escaped letter }
-{
-    match letter {
-        b'n' => b'\n',
-        b't' => b'\t',
-        _ => letter,
-    }
-}
-
-// What stands between a string's quotes stands for.
-fn string_value(alloc: Global, body: &[u8]) -> Result<Items<u8>, AllocError>
-    ensures { IfOk result (λ v. v ≡ spec.string_value body.now) }
-{
-    let mut value = Items::new(alloc);
-    let mut after_backslash = false;
-    for b in body {
-        if after_backslash {
-            value.push(escaped(*b))?;
-            after_backslash = false;
-        } else if *b == b'\\' {
-            after_backslash = true;
-        } else {
-            value.push(*b)?;
-        }
-    }
-    Ok(value)
-}
-
-// What stands between the first and the last byte.
-fn between(spelling: &[u8]) -> &[u8]
-    ensures { result.now ≡ spec.between spelling.now }
-{
-    if spelling.len() < 2 {
-        &spelling[..0]
-    } else {
-        &spelling[1..spelling.len() - 1]
-    }
-}
-
 /// What a token of this kind and spelling is to the grammar.
 pub fn symbol_of(alloc: Global, kind: TokenKind, spelling: &[u8]) -> Result<Symbol, AllocError>
     ensures { IfOk result (λ s. s ≡ spec.symbol_of kind spelling.now) }
@@ -222,7 +275,7 @@ pub fn symbol_of(alloc: Global, kind: TokenKind, spelling: &[u8]) -> Result<Symb
             Some(n) => Ok(Symbol::Number(n)),
             None => Ok(Symbol::Other),
         },
-        TokenKind::Text => Ok(Symbol::Text(string_value(alloc, between(spelling))?)),
+        TokenKind::Text => Ok(Symbol::Text(Items::from_vec(text_value(alloc, spelling)?))),
         TokenKind::Word => Ok(symbol_of_fixed(find_fixed(spelling))),
         TokenKind::Sign => Ok(symbol_of_fixed(find_fixed(spelling))),
     }

@@ -6,3 +6,4 @@ pub mod Rows
 pub mod OneReading
 pub mod Spelled
 pub mod Unescaped
+pub mod InRows

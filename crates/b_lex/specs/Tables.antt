@@ -1,5 +1,5 @@
 -- The reserved words and the signs of B, and how a text is looked up among them.
-use Rattle.std.specs.Prelude.{ℕ, Bool, ◌||◌, List, [], ◌∷◌, length, map, max, codes, filter, nat_eq}
+use Rattle.std.specs.Prelude.{ℕ, Bool, true, ◌||◌, ◌%◌, ◌==◌, List, [], ◌∷◌, length, map, max, codes, filter, nat_eq}
 use Rattle.std.specs.List.{list_any, starts_with}
 use Rattle.std.specs.Str.{bytes_eq}
 
@@ -34,6 +34,11 @@ signs =
 -- whether the table has this entry
 abbrev pub has_entry : List (List ℕ) → List ℕ → Bool
 has_entry table entry = list_any (bytes_eq entry) table
+
+-- whether an entry stands in this row of a table, by its first byte modulo the number of rows; an empty entry stands in each
+abbrev pub is_in_row : ℕ → ℕ → List ℕ → Bool
+is_in_row rows row [] = true
+is_in_row rows row (b ∷ bytes) = b % rows == row
 
 -- the greatest of some numbers, 0 where there is none
 abbrev pub greatest : List ℕ → ℕ

@@ -13,6 +13,3 @@ pub use lexer::{lex, one_reading, spelled_tokens, token_text};
 pub use tables::is_left_out;
 pub use tokens::{LexFault, LexKind, Token, TokenKind};
 pub use values::{number_value, text_value};
-
-#[cfg(test)]
-mod tests;

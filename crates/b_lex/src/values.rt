@@ -61,6 +61,8 @@ fn unescaped(alloc: Global, bytes: &[u8]) -> Result<Vec<u8>, AllocError>
 
 /// The bytes that a string stands for, by its spelling with the quotes.
 pub fn text_value(alloc: Global, spelling: &[u8]) -> Result<Vec<u8>, AllocError>
+    // What stands between the first byte and the last, each escape replaced, of any bytes.
+    ensures bytes { IfOk result (λ found. found.items ≡ unescape false (inside_of spelling.now)) }
     ensures value { IfOk result (λ found. (value : List ℕ) → IsText spelling.now value → found.items ≡ value) }
     ensures utf8 { IfOk result (λ found. (value : List ℕ) → IsText spelling.now value → IsUtf8 found.items) }
 {

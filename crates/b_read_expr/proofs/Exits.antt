@@ -17,22 +17,22 @@ use Rattle.b_grammar.specs.declared.Mark.TheVariants as sign
 use Rattle.b_grammar.specs.declared.Symbol.{Symbol}
 use Rattle.b_grammar.specs.declared.Lexeme.{Lexeme}
 use Rattle.b_grammar.specs.Grammar as grammar
-use Rattle.b_grammar.specs.Grammar.{arity, mark_of, bound_names, is_minus, link}
+use Rattle.b_grammar.specs.Grammar.{arity, bracketed, mark_of, bound_names, is_minus, link}
 use Rattle.b_grammar.specs.Descent as descent
-use Rattle.b_grammar.specs.Descent.{Found, Read, with_found, headed, closed, starts, each, made, begins_after, is_comma}
+use Rattle.b_grammar.specs.Descent.{Found, Read, with_found, headed, closed, starts, each, made, is_operator, and_left, begins_after, is_comma}
 use Rattle.b_read_expr.specs.declared.Unread.{Unread}
 use Rattle.b_read_expr.specs.declared.Unread.TheVariants as unread
-use Rattle.b_read_expr.specs.declared.reading.Joint.{Joint}
-use Rattle.b_read_expr.specs.declared.reading.Joint.TheVariants as joint
+use Rattle.b_read_expr.specs.declared.grouping.Part.{Part}
 use Rattle.b_read_expr.specs.declared.reading.Content.{Content}
 use Rattle.b_read_expr.specs.declared.reading.Content.TheVariants as content
 use Rattle.b_read_expr.specs.declared.reading.Opener.{Opener}
 use Rattle.b_read_expr.specs.declared.reading.Opener.TheVariants as opener
 use Rattle.b_read_expr.specs.declared.reading.Bracket.{Bracket}
 use Rattle.b_read_expr.specs.declared.reading.Bracket.TheVariants as bracket
-use Rattle.b_read_expr.specs.Reading.{Stops, Reads, inside, piece, operand, whole_row, form, one_after, afters, joins, linked, links, may_link, node, chain, contents, enclosed, close_of, listing, items, marked, conditional, call, call_if, call_node, collected, behind, BeginsWith, BeginsAfter}
+use Rattle.b_read_expr.specs.Reading.{Stops, Reads, inside, piece, operand, whole_row, form, one_after, afters, part_of, part, parts, comma_link, links, node, list, contents, enclosed, close_of, listing, items, marked, conditional, call, call_if, call_node, collected, behind, BeginsWith, BeginsWithComma, BeginsAfter}
+use Rattle.b_read_expr.specs.Grouping.{tree}
 use Rattle.b_read_expr.proofs.Loops.{IsReading, begin, begin_after, ends, fails, goes, after_these}
-use Rattle.b_read_expr.proofs.Laws.{stops_on, and_rest, completed, piece_alone, piece_chain, chain_is, joint_starts, link_none, link_found, operand_minus, operand_plain, operand_end, row_is, contents_none, in_bracket, contents_deeper, enclosed_is, after_is, opener_begins, item, items_is, comma_starts, comma_stops, item_is, listing_is, form_end, form_by, form_is, call_is, collected_is, conditional_is, marked_by, marked_is}
+use Rattle.b_read_expr.proofs.Laws.{stops_on, and_rest, grouped_on, piece_is, operator_starts, part_is, list_is, comma_begins, comma_is, operand_minus, operand_plain, operand_end, row_is, contents_none, in_bracket, contents_deeper, enclosed_is, after_is, opener_begins, item, items_is, comma_starts, comma_stops, item_is, listing_is, form_end, form_by, form_is, call_is, collected_is, conditional_is, marked_by, marked_is}
 
 -- ---- in general
 
@@ -54,41 +54,62 @@ reads_on r s ts us (Err e) h l c = stops_on e (s us) (r ts) (λ n. h ∙ n) c
 pub longer : (ts us : List Lexeme) (s : Lexeme) → ts ≡ s ∷ us → length us < length ts
 longer ts us s e = let l : length ts ≡ suc (length us) = ap length e in omega arith
 
--- ---- pieces
+-- ---- operators
 
-pub piece_empty : (depth : ℕ) (levels : List ℕ) (ts : List Lexeme) → levels ≡ [] → piece depth levels ts ≡ operand depth ts
-piece_empty depth levels ts e = ap (λ l. piece depth l ts) e ∙ piece_alone depth ts
+pub piece_stops : (depth : ℕ) (levels : List ℕ) (ts : List Lexeme) (t : Formula) (us : List Lexeme) → operand depth ts ≡ Some (t, us) → parts depth levels us ≡ None → piece depth levels ts ≡ None
+piece_stops depth levels ts t us e f = piece_is depth levels ts t us e ∙ ap (λ q. with_found q (grouped_on levels t)) f
 
-pub piece_more : (depth : ℕ) (levels : List ℕ) (p : ℕ) (ps : List ℕ) (ts : List Lexeme) → levels ≡ p ∷ ps → piece depth levels ts ≡ chain depth (joint.Priority p) ps ts
-piece_more depth levels p ps ts e = ap (λ l. piece depth l ts) e ∙ piece_chain depth p ps ts
+pub piece_to : (depth : ℕ) (levels : List ℕ) (ts : List Lexeme) (t : Formula) (us : List Lexeme) (ps : List Part) (vs : List Lexeme) (q : Option Formula)
+    → operand depth ts ≡ Some (t, us) → parts depth levels us ≡ Some (ps, vs) → q ≡ tree levels t ps → piece depth levels ts ≡ and_left vs q
+piece_to depth levels ts t us ps vs q e f g = piece_is depth levels ts t us e ∙ ap (λ q. with_found q (grouped_on levels t)) f ∙ ap (and_left vs) (sym g)
 
-pub chain_stops : (depth : ℕ) (j : Joint) (levels : List ℕ) (ts : List Lexeme) (t : Formula) (us : List Lexeme) → piece depth levels ts ≡ Some (t, us) → links depth j levels us ≡ None → chain depth j levels ts ≡ None
-chain_stops depth j levels ts t us e f = chain_is depth j levels ts t us e ∙ ap (completed j t) f
+abbrev pub PartsRead : ℕ → List ℕ → List Lexeme → List Part → List Lexeme → Type 0
+PartsRead depth levels from ps ts = IsReading (is_operator levels) (part (operand depth)) (parts depth levels from) from ps ts
 
-pub chain_found : (depth : ℕ) (j : Joint) (levels : List ℕ) (ts : List Lexeme) (t : Formula) (us : List Lexeme) (ls : List Link) (vs : List Lexeme)
-    → piece depth levels ts ≡ Some (t, us) → links depth j levels us ≡ Some (ls, vs) → may_link j ls ≡ true → chain depth j levels ts ≡ Some (node t ls, vs)
-chain_found depth j levels ts t us ls vs e f m = chain_is depth j levels ts t us e ∙ ap (completed j t) f ∙ ap (λ b. closed (node t ls) b vs) m
+module _ (depth : ℕ) (levels : List ℕ) (from : List Lexeme) where
+  pub parts_begin : PartsRead depth levels from [] from
+  unfolding parts
+  parts_begin = begin (is_operator levels) (part (operand depth)) from
 
-pub chain_refused : (depth : ℕ) (j : Joint) (levels : List ℕ) (ts : List Lexeme) (t : Formula) (us : List Lexeme) (ls : List Link) (vs : List Lexeme)
-    → piece depth levels ts ≡ Some (t, us) → links depth j levels us ≡ Some (ls, vs) → may_link j ls ≡ false → chain depth j levels ts ≡ None
-chain_refused depth j levels ts t us ls vs e f m = chain_is depth j levels ts t us e ∙ ap (completed j t) f ∙ ap (λ b. closed (node t ls) b vs) m
+  module _ (ps : List Part) (ts : List Lexeme) (p : Operator × Place × Bor (List Lexeme)) (b : BeginsWith levels ts (Some p)) where
+    pub parts_stop : PartsRead depth levels from ps ts → operand depth p.2.now ≡ None → parts depth levels from ≡ None
+    parts_stop r e =
+        fails (is_operator levels) (part (operand depth)) (parts depth levels from) from ps ts r (operator_starts levels ts p b)
+        (part_is levels (operand depth) ts p b ∙ ap (λ q. with_found q (λ t rest. Some (part_of p.0 p.1 t, rest))) e)
 
-abbrev pub LinksRead : ℕ → Joint → List ℕ → List Lexeme → List Link → List Lexeme → Type 0
-LinksRead depth j levels from ls ts = IsReading (joins j) (linked j (piece depth levels)) (links depth j levels from) from ls ts
-
-module _ (depth : ℕ) (j : Joint) (levels : List ℕ) (from : List Lexeme) where
-  pub links_begin : LinksRead depth j levels from [] from
-  unfolding links
-  links_begin = begin (joins j) (linked j (piece depth levels)) from
-
-  module _ (ls : List Link) (ts : List Lexeme) (p : Operator × Place × Bor (List Lexeme)) (b : BeginsWith j ts (Some p)) where
-    pub links_stop : LinksRead depth j levels from ls ts → piece depth levels p.2.now ≡ None → links depth j levels from ≡ None
-    links_stop r e = fails (joins j) (linked j (piece depth levels)) (links depth j levels from) from ls ts r (joint_starts j ts p b) (link_none j (piece depth levels) ts p b e)
-
-    pub links_go : (t : Formula) (us : List Lexeme) → LinksRead depth j levels from ls ts → piece depth levels p.2.now ≡ Some (t, us) → length us ≤ length p.2.now → LinksRead depth j levels from (ls ++ link (p.0, p.1, t) ∷ []) us
-    links_go t us r e h =
+    pub parts_go : (t : Formula) (us : List Lexeme) → PartsRead depth levels from ps ts → operand depth p.2.now ≡ Some (t, us) → length us ≤ length p.2.now → PartsRead depth levels from (ps ++ part_of p.0 p.1 t ∷ []) us
+    parts_go t us r e h =
         let l = longer ts p.2.now b.0 b.1 in
-        goes (joins j) (linked j (piece depth levels)) (links depth j levels from) from ls ts (link (p.0, p.1, t)) us r (joint_starts j ts p b) (link_found j (piece depth levels) ts p t us b e) (omega arith)
+        goes (is_operator levels) (part (operand depth)) (parts depth levels from) from ps ts (part_of p.0 p.1 t) us r (operator_starts levels ts p b)
+        (part_is levels (operand depth) ts p b ∙ ap (λ q. with_found q (λ t rest. Some (part_of p.0 p.1 t, rest))) e) (omega arith)
+
+-- ---- commas
+
+pub list_stops : (depth : ℕ) (o : Operator) (ts : List Lexeme) (t : Formula) (us : List Lexeme) → piece depth bracketed ts ≡ Some (t, us) → links depth o us ≡ None → list depth o ts ≡ None
+list_stops depth o ts t us e f = list_is depth o ts t us e ∙ ap (λ q. with_found q (λ ls rest. Some (node t ls, rest))) f
+
+pub list_found : (depth : ℕ) (o : Operator) (ts : List Lexeme) (t : Formula) (us : List Lexeme) (ls : List Link) (vs : List Lexeme) → piece depth bracketed ts ≡ Some (t, us) → links depth o us ≡ Some (ls, vs) → list depth o ts ≡ Some (node t ls, vs)
+list_found depth o ts t us ls vs e f = list_is depth o ts t us e ∙ ap (λ q. with_found q (λ ls rest. Some (node t ls, rest))) f
+
+abbrev pub LinksRead : ℕ → Operator → List Lexeme → List Link → List Lexeme → Type 0
+LinksRead depth o from ls ts = IsReading is_comma (comma_link o (piece depth bracketed)) (links depth o from) from ls ts
+
+module _ (depth : ℕ) (o : Operator) (from : List Lexeme) where
+  pub links_begin : LinksRead depth o from [] from
+  unfolding links
+  links_begin = begin is_comma (comma_link o (piece depth bracketed)) from
+
+  module _ (ls : List Link) (ts : List Lexeme) (p : Place × Bor (List Lexeme)) (b : BeginsWithComma ts (Some p)) where
+    pub links_stop : LinksRead depth o from ls ts → piece depth bracketed p.1.now ≡ None → links depth o from ≡ None
+    links_stop r e =
+        fails is_comma (comma_link o (piece depth bracketed)) (links depth o from) from ls ts r (comma_begins ts p b)
+        (comma_is o (piece depth bracketed) ts p b ∙ ap (λ q. with_found q (λ t rest. Some (link (o, p.0, t), rest))) e)
+
+    pub links_go : (t : Formula) (us : List Lexeme) → LinksRead depth o from ls ts → piece depth bracketed p.1.now ≡ Some (t, us) → length us ≤ length p.1.now → LinksRead depth o from (ls ++ link (o, p.0, t) ∷ []) us
+    links_go t us r e h =
+        let l = longer ts p.1.now b.0 b.1 in
+        goes is_comma (comma_link o (piece depth bracketed)) (links depth o from) from ls ts (link (o, p.0, t)) us r (comma_begins ts p b)
+        (comma_is o (piece depth bracketed) ts p b ∙ ap (λ q. with_found q (λ t rest. Some (link (o, p.0, t), rest))) e) (omega arith)
 
 -- ---- operands
 

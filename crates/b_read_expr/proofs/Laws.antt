@@ -21,22 +21,22 @@ use Rattle.b_grammar.specs.declared.Symbol.TheVariants as symbol
 use Rattle.b_grammar.specs.declared.Lexeme.{Lexeme}
 use Rattle.b_grammar.specs.Cuts.{mark}
 use Rattle.b_grammar.specs.Grammar as grammar
-use Rattle.b_grammar.specs.Grammar.{priority, plain, bracketed, may_chain, arity, Part, link, joined, mark_of, Names, names_to_bar, bound_names, is_minus}
+use Rattle.b_grammar.specs.Grammar.{priority, plain, bracketed, arity, link, joined, mark_of, Names, names_to_bar, bound_names, is_minus}
 use Rattle.b_grammar.specs.Descent as descent
-use Rattle.b_grammar.specs.Descent.{Found, Read, with_found, never, done, headed, is_mark, closed, shut, ended, pair, starts, each, made, or_else, has_priority, listed, is_comma, begins_after, after_names, reads_formula}
+use Rattle.b_grammar.specs.Descent.{Found, Read, with_found, never, done, headed, is_mark, closed, shut, ended, pair, starts, each, made, or_else, is_among, is_operator, listed, is_comma, begins_after, after_names, reads_formula}
 use Rattle.b_grammar.proofs.Ways.{mark_named}
-use Rattle.b_read_expr.proofs.Closing.{formula_none}
+use Rattle.b_grammar.proofs.Descent.{formula_none}
 use Rattle.b_read_expr.specs.declared.Unread.{Unread}
 use Rattle.b_read_expr.specs.declared.Unread.TheVariants as unread
-use Rattle.b_read_expr.specs.declared.reading.Joint.{Joint}
-use Rattle.b_read_expr.specs.declared.reading.Joint.TheVariants as joint
+use Rattle.b_read_expr.specs.declared.grouping.Part.{Part}
 use Rattle.b_read_expr.specs.declared.reading.Content.{Content}
 use Rattle.b_read_expr.specs.declared.reading.Content.TheVariants as content
 use Rattle.b_read_expr.specs.declared.reading.Opener.{Opener}
 use Rattle.b_read_expr.specs.declared.reading.Opener.TheVariants as opener
 use Rattle.b_read_expr.specs.declared.reading.Bracket.{Bracket}
 use Rattle.b_read_expr.specs.declared.reading.Bracket.TheVariants as bracket
-use Rattle.b_read_expr.specs.Reading.{Stops, inside, piece, operand, whole_row, form, one_after, afters, joins, operator_if, joining, link_if, linked, links, may_link, node, chain, contents, enclosed, close_of, listing, items, marked, curly, conditional, call, named, quantified, collected, opener_of, behind, behind_if, BeginsWith}
+use Rattle.b_read_expr.specs.Reading.{Stops, inside, piece, operand, whole_row, form, one_after, afters, operator_if, operator_of, part_of, part, parts, comma_link, links, node, list, contents, enclosed, close_of, listing, items, marked, curly, conditional, call, named, quantified, collected, opener_of, behind, behind_if, BeginsWith, BeginsWithComma}
+use Rattle.b_read_expr.specs.Grouping.{parts_of, tree}
 use Rattle.b_read_expr.proofs.Loops.{after_these, each_as}
 
 -- ---- stops and steps
@@ -93,25 +93,80 @@ ended_made m h r ts = go (r ts)
     go None = refl
     go (Some p) = shut_made m h p.0 p.1
 
--- ---- pieces
+-- ---- operators
 
-pub piece_alone : (depth : ℕ) (ts : List Lexeme) → piece depth [] ts ≡ operand depth ts
+abbrev as_part : Operator → Place → Formula → List Lexeme → Found grammar.Part
+as_part o at t rest = Some ((o, at, t), rest)
+
+abbrev to_part : grammar.Part → Part
+to_part l = part_of l.0 l.1 l.2
+
+parts_back : (ls : List grammar.Part) → parts_of (map to_part ls) ≡ ls
+parts_back [] = refl
+parts_back (l ∷ ls) = ap (λ ls. l ∷ ls) (parts_back ls)
+
+part_as : (r : Read Formula) (s : Lexeme) (ts : List Lexeme) → made to_part (descent.part r s) ts ≡ part r s ts
+part_as r s ts = go s.symbol s.at
+  where
+    both : (o : Operator) (at : Place) (q : Found Formula) → with_found (with_found q (as_part o at)) (λ l rest. Some (to_part l, rest)) ≡ with_found q (λ t rest. Some (part_of o at t, rest))
+    both o at None = refl
+    both o at (Some x) = refl
+
+    go : (y : Symbol) (at : Place) → made to_part (descent.part r (record { symbol = y; at = at })) ts ≡ part r (record { symbol = y; at = at }) ts
+    go (symbol.Operator o) at = both o at (r ts)
+    go y at = refl
+
+-- the tree of a row, before what is left
+abbrev pub grouped_on : List ℕ → Formula → List Part → List Lexeme → Found Formula
+grouped_on levels t ps rest = descent.and_left rest (tree levels t ps)
+
+pub piece_none : (depth : ℕ) (levels : List ℕ) (ts : List Lexeme) → operand depth ts ≡ None → piece depth levels ts ≡ None
 unfolding piece operand
-piece_alone depth ts = refl
+piece_none depth levels ts e =
+    ap
+    (λ q. with_found (with_found q (λ x rest. descent.and_also x (each (is_operator levels) (descent.part (operand depth)) rest))) (λ x rest. descent.and_left rest (descent.if_some (descent.grouped levels x) descent.alone)))
+    e
 
-pub piece_chain : (depth p : ℕ) (ps : List ℕ) (ts : List Lexeme) → piece depth (p ∷ ps) ts ≡ chain depth (joint.Priority p) ps ts
-unfolding piece chain
-piece_chain depth p ps ts = refl
+pub piece_is : (depth : ℕ) (levels : List ℕ) (ts : List Lexeme) (t : Formula) (us : List Lexeme) → operand depth ts ≡ Some (t, us) → piece depth levels ts ≡ with_found (parts depth levels us) (grouped_on levels t)
+unfolding piece operand parts
+piece_is depth levels ts t us e =
+    ap
+    (λ q. with_found (with_found q (λ x rest. descent.and_also x (each (is_operator levels) (descent.part (operand depth)) rest))) (λ x rest. descent.and_left rest (descent.if_some (descent.grouped levels x) descent.alone)))
+    e
+    ∙ row (each (is_operator levels) (descent.part (operand depth)) us)
+    ∙ ap (λ q. with_found q (grouped_on levels t)) (each_as (is_operator levels) to_part (descent.part (operand depth)) (part (operand depth)) (part_as (operand depth)) us)
+  where
+    row : (q : Found (List grammar.Part))
+        → with_found (descent.and_also t q) (λ x rest. descent.and_left rest (descent.if_some (descent.grouped levels x) descent.alone)) ≡ with_found (with_found q (λ xs rest. Some (map to_part xs, rest))) (grouped_on levels t)
+    row None = refl
+    row (Some p) = ap (λ (ls : List grammar.Part). descent.and_left p.1 (descent.if_some (descent.grouped levels (t, ls)) descent.alone)) (sym (parts_back p.0))
 
-abbrev pub completed : Joint → Formula → Found (List Link) → Found Formula
-completed j t q = with_found q (λ ls rest. closed (node t ls) (may_link j ls) rest)
+pub operator_starts : (levels : List ℕ) (ts : List Lexeme) (p : Operator × Place × Bor (List Lexeme)) → BeginsWith levels ts (Some p) → starts (is_operator levels) ts ≡ true
+operator_starts levels ts p h = ap (starts (is_operator levels)) h.1 ∙ go h.0.symbol h.0.at h.3
+  where
+    tested : (b : Bool) (o : Operator) → operator_if b o ≡ Some p.0 → b ≡ true
+    tested true o e = refl
+    tested false o e = absurd (cc)
 
-may_map : (p : ℕ) (ps : List Part) → may_chain p (map link ps) ≡ may_chain p ps
-may_map p [] = refl
-may_map p (l ∷ []) = refl
-may_map p (l ∷ m ∷ ps) = refl
+    go : (y : Symbol) (at : Place) → operator_of levels y ≡ Some p.0 → is_operator levels (record { symbol = y; at = at }) ≡ true
+    go (symbol.Operator o) at e = tested (is_among levels false (priority o)) o e
+    go y at e = absurd (cc)
 
-node_map : (t : Formula) (ps : List Part) → node t (map link ps) ≡ grammar.chain (t, ps)
+pub part_is : (levels : List ℕ) (r : Read Formula) (ts : List Lexeme) (p : Operator × Place × Bor (List Lexeme)) → BeginsWith levels ts (Some p) → headed (part r) ts ≡ made (part_of p.0 p.1) r p.2.now
+part_is levels r ts p h = ap (headed (part r)) h.1 ∙ go h.0.symbol h.0.at h.2 h.3
+  where
+    named : (b : Bool) (o : Operator) → operator_if b o ≡ Some p.0 → o ≡ p.0
+    named true o e = cc
+    named false o e = absurd (cc)
+
+    go : (y : Symbol) (at : Place) → at ≡ p.1 → operator_of levels y ≡ Some p.0 → part r (record { symbol = y; at = at }) p.2.now ≡ made (part_of p.0 p.1) r p.2.now
+    go (symbol.Operator o) at e f =
+        ap (λ o. made (part_of o at) r p.2.now) (named (is_among levels false (priority o)) o f) ∙ ap (λ at. made (part_of p.0 at) r p.2.now) e
+    go y at e f = absurd (cc)
+
+-- ---- commas
+
+pub node_map : (t : Formula) (ps : List grammar.Part) → node t (map link ps) ≡ grammar.chain (t, ps)
 node_map t [] = refl
 node_map t (l ∷ ps) = refl
 
@@ -119,104 +174,48 @@ map_twice : {A B C : Type 0} (f : A → B) (g : B → C) (xs : List A) → map g
 map_twice f g [] = refl
 map_twice f g (x ∷ xs) = ap (λ l. g (f x) ∷ l) (map_twice f g xs)
 
-abbrev as_part : Operator → Place → Formula → List Lexeme → Found Part
-as_part o at t rest = Some ((o, at, t), rest)
-
 abbrev as_next : Place → Formula → List Lexeme → Found (Place × Formula)
 as_next at t rest = Some ((at, t), rest)
 
-part_as : (p : ℕ) (r : Read Formula) (s : Lexeme) (ts : List Lexeme) → made link (descent.part p r s) ts ≡ linked (joint.Priority p) r s ts
-part_as p r s ts = go s.symbol s.at
-  where
-    tested : (o : Operator) (at : Place) (b : Bool) (q : Found Formula) → with_found (with_found q (λ t rest. closed {A = Part} (o, at, t) b rest)) (λ l rest. Some (link l, rest)) ≡ link_if (operator_if b o) at q
-    tested o at true None = refl
-    tested o at true (Some x) = refl
-    tested o at false None = refl
-    tested o at false (Some x) = refl
+abbrev next_link : Operator → Place × Formula → Link
+next_link o u = link (o, u.0, u.1)
 
-    first : (o : Operator) (at : Place) (q : Found Formula) → with_found (with_found q (as_part o at)) (λ l rest. closed l (priority l.0 == p) rest) ≡ with_found q (λ t rest. closed {A = Part} (o, at, t) (priority o == p) rest)
-    first o at None = refl
-    first o at (Some x) = refl
-
-    go : (y : Symbol) (at : Place) → made link (descent.part p r (record { symbol = y; at = at })) ts ≡ linked (joint.Priority p) r (record { symbol = y; at = at }) ts
-    go (symbol.Operator o) at = ap (λ q. with_found q (λ l rest. Some (link l, rest))) (first o at (r ts)) ∙ tested o at (priority o == p) (r ts)
-    go y at = refl
-
-next_as : (o : Operator) (r : Read Formula) (s : Lexeme) (ts : List Lexeme) → made (λ (u : Place × Formula). link (o, u.0, u.1)) (descent.next r s) ts ≡ linked (joint.Comma o) r s ts
+next_as : (o : Operator) (r : Read Formula) (s : Lexeme) (ts : List Lexeme) → made (next_link o) (descent.next r s) ts ≡ comma_link o r s ts
 next_as o r s ts = go s.symbol s.at
   where
-    both : (at : Place) (q : Found Formula) → with_found (with_found q (as_next at)) (λ u rest. Some (link (o, u.0, u.1), rest)) ≡ link_if (Some o) at q
+    both : (at : Place) (q : Found Formula) → with_found (with_found q (as_next at)) (λ u rest. Some (next_link o u, rest)) ≡ with_found q (λ t rest. Some (link (o, at, t), rest))
     both at None = refl
     both at (Some x) = refl
 
-    go : (y : Symbol) (at : Place) → made (λ (u : Place × Formula). link (o, u.0, u.1)) (descent.next r (record { symbol = y; at = at })) ts ≡ linked (joint.Comma o) r (record { symbol = y; at = at }) ts
+    go : (y : Symbol) (at : Place) → made (next_link o) (descent.next r (record { symbol = y; at = at })) ts ≡ comma_link o r (record { symbol = y; at = at }) ts
     go (symbol.Mark sign.Comma) at = both at (r ts)
     go y at = refl
 
-chain_priority : (p : ℕ) (t : Formula) (q : Found (List Part))
-    → with_found (with_found (descent.and_also t q) (λ c rest. closed c (may_chain p c.1) rest)) (λ c rest. Some (grammar.chain c, rest)) ≡ completed (joint.Priority p) t (with_found q (λ xs rest. Some (map link xs, rest)))
-chain_priority p t None = refl
-chain_priority p t (Some x) =
-    go (may_chain p x.0) ∙ ap (λ b. closed (grammar.chain (t, x.0)) b x.1) (sym (may_map p x.0)) ∙ ap (λ u. closed u (may_chain p (map link x.0)) x.1) (sym (node_map t x.0))
+pub list_none : (depth : ℕ) (o : Operator) (ts : List Lexeme) → piece depth bracketed ts ≡ None → list depth o ts ≡ None
+unfolding list
+list_none depth o ts e = ap (λ q. with_found (with_found q (λ x rest. descent.and_also x (each is_comma (descent.next (piece depth bracketed)) rest))) (λ us rest. Some (joined o us, rest))) e
+
+pub list_is : (depth : ℕ) (o : Operator) (ts : List Lexeme) (t : Formula) (us : List Lexeme) → piece depth bracketed ts ≡ Some (t, us) → list depth o ts ≡ with_found (links depth o us) (λ ls rest. Some (node t ls, rest))
+unfolding list links
+list_is depth o ts t us e =
+    ap (λ q. with_found (with_found q (λ x rest. descent.and_also x (each is_comma (descent.next (piece depth bracketed)) rest))) (λ us rest. Some (joined o us, rest))) e
+    ∙ commas (each is_comma (descent.next (piece depth bracketed)) us)
+    ∙ ap (λ q. with_found q (λ ls rest. Some (node t ls, rest))) (each_as is_comma (next_link o) (descent.next (piece depth bracketed)) (comma_link o (piece depth bracketed)) (next_as o (piece depth bracketed)) us)
   where
-    go : (b : Bool) → with_found (closed {A = Formula × List Part} (t, x.0) b x.1) (λ c rest. Some (grammar.chain c, rest)) ≡ closed (grammar.chain (t, x.0)) b x.1
-    go true = refl
-    go false = refl
+    commas : (q : Found (List (Place × Formula))) → with_found (descent.and_also t q) (λ us rest. Some (joined o us, rest)) ≡ with_found (with_found q (λ xs rest. Some (map (next_link o) xs, rest))) (λ ls rest. Some (node t ls, rest))
+    commas None = refl
+    commas (Some x) =
+        ap (λ u. Some (u, x.1)) (sym (node_map t (map (λ (u : Place × Formula). (o, u.0, u.1)) x.0)) ∙ ap (node t) (map_twice (λ (u : Place × Formula). (o, u.0, u.1)) link x.0))
 
-chain_commas : (o : Operator) (t : Formula) (q : Found (List (Place × Formula)))
-    → with_found (descent.and_also t q) (λ us rest. Some (joined o us, rest)) ≡ completed (joint.Comma o) t (with_found q (λ xs rest. Some (map (λ (u : Place × Formula). link (o, u.0, u.1)) xs, rest)))
-chain_commas o t None = refl
-chain_commas o t (Some x) =
-    ap (λ u. Some (u, x.1)) (sym (node_map t (map (λ (u : Place × Formula). (o, u.0, u.1)) x.0)) ∙ ap (node t) (map_twice (λ (u : Place × Formula). (o, u.0, u.1)) link x.0))
+pub comma_begins : (ts : List Lexeme) (p : Place × Bor (List Lexeme)) → BeginsWithComma ts (Some p) → starts is_comma ts ≡ true
+comma_begins ts p h = ap (starts is_comma) h.1 ∙ h.3
 
-pub chain_none : (depth : ℕ) (j : Joint) (levels : List ℕ) (ts : List Lexeme) → piece depth levels ts ≡ None → chain depth j levels ts ≡ None
-unfolding chain
-chain_none depth (joint.Priority p) levels ts e =
-    ap
-    (λ q. with_found (with_found (with_found q (λ x rest. descent.and_also x (each (has_priority p) (descent.part p (piece depth levels)) rest))) (λ c rest. closed c (may_chain p c.1) rest)) (λ c rest. Some (grammar.chain c, rest)))
-    e
-chain_none depth (joint.Comma o) levels ts e =
-    ap (λ q. with_found (with_found q (λ x rest. descent.and_also x (each is_comma (descent.next (piece depth levels)) rest))) (λ us rest. Some (joined o us, rest))) e
-
-pub chain_is : (depth : ℕ) (j : Joint) (levels : List ℕ) (ts : List Lexeme) (t : Formula) (us : List Lexeme) → piece depth levels ts ≡ Some (t, us) → chain depth j levels ts ≡ completed j t (links depth j levels us)
-unfolding chain links
-chain_is depth (joint.Priority p) levels ts t us e =
-    ap
-    (λ q. with_found (with_found (with_found q (λ x rest. descent.and_also x (each (has_priority p) (descent.part p (piece depth levels)) rest))) (λ c rest. closed c (may_chain p c.1) rest)) (λ c rest. Some (grammar.chain c, rest)))
-    e
-    ∙ chain_priority p t (each (has_priority p) (descent.part p (piece depth levels)) us)
-    ∙ ap (completed (joint.Priority p) t) (each_as (has_priority p) link (descent.part p (piece depth levels)) (linked (joint.Priority p) (piece depth levels)) (part_as p (piece depth levels)) us)
-chain_is depth (joint.Comma o) levels ts t us e =
-    ap (λ q. with_found (with_found q (λ x rest. descent.and_also x (each is_comma (descent.next (piece depth levels)) rest))) (λ us rest. Some (joined o us, rest))) e
-    ∙ chain_commas o t (each is_comma (descent.next (piece depth levels)) us)
-    ∙ ap
-    (completed (joint.Comma o) t)
-    (each_as is_comma (λ (u : Place × Formula). link (o, u.0, u.1)) (descent.next (piece depth levels)) (linked (joint.Comma o) (piece depth levels)) (next_as o (piece depth levels)) us)
-
--- a joint at the front
-pub joint_starts : (j : Joint) (ts : List Lexeme) (p : Operator × Place × Bor (List Lexeme)) → BeginsWith j ts (Some p) → starts (joins j) ts ≡ true
-joint_starts j ts p h = ap (starts (joins j)) h.1 ∙ go j h.0.symbol h.0.at h.3
+pub comma_is : (o : Operator) (r : Read Formula) (ts : List Lexeme) (p : Place × Bor (List Lexeme)) → BeginsWithComma ts (Some p) → headed (comma_link o r) ts ≡ made (λ t. link (o, p.0, t)) r p.1.now
+comma_is o r ts p h = ap (headed (comma_link o r)) h.1 ∙ go h.0.symbol h.0.at h.2 h.3
   where
-    tested : (b : Bool) (o : Operator) → operator_if b o ≡ Some p.0 → b ≡ true
-    tested true o e = refl
-    tested false o e = absurd (cc)
-
-    go : (j : Joint) (y : Symbol) (at : Place) → joining j y ≡ Some p.0 → joins j (record { symbol = y; at = at }) ≡ true
-    go (joint.Priority p) (symbol.Operator o) at e = tested (priority o == p) o e
-    go (joint.Comma o) (symbol.Mark sign.Comma) at e = refl
-    go j y at e = absurd (cc)
-
-link_is : (j : Joint) (r : Read Formula) (ts : List Lexeme) (p : Operator × Place × Bor (List Lexeme)) → BeginsWith j ts (Some p) → headed (linked j r) ts ≡ link_if (Some p.0) p.1 (r p.2.now)
-link_is j r ts p h =
-    ap (headed (linked j r)) h.1
-    ∙ ap (λ o. link_if o h.0.at (r p.2.now)) h.3
-    ∙ ap (λ at. link_if (Some p.0) at (r p.2.now)) h.2
-
-pub link_none : (j : Joint) (r : Read Formula) (ts : List Lexeme) (p : Operator × Place × Bor (List Lexeme)) → BeginsWith j ts (Some p) → r p.2.now ≡ None → headed (linked j r) ts ≡ None
-link_none j r ts p h e = link_is j r ts p h ∙ ap (link_if (Some p.0) p.1) e
-
-pub link_found : (j : Joint) (r : Read Formula) (ts : List Lexeme) (p : Operator × Place × Bor (List Lexeme)) (t : Formula) (us : List Lexeme) → BeginsWith j ts (Some p) → r p.2.now ≡ Some (t, us) → headed (linked j r) ts ≡ Some (link (p.0, p.1, t), us)
-link_found j r ts p t us h e = link_is j r ts p h ∙ ap (link_if (Some p.0) p.1) e
+    go : (y : Symbol) (at : Place) → at ≡ p.0 → is_comma (record { symbol = y; at = at }) ≡ true → comma_link o r (record { symbol = y; at = at }) p.1.now ≡ made (λ t. link (o, p.0, t)) r p.1.now
+    go (symbol.Mark sign.Comma) at e f = ap (λ at. made (λ t. link (o, at, t)) r p.1.now) e
+    go y at e f = absurd (cc)
 
 -- ---- operands
 
@@ -267,15 +266,15 @@ part_deeper : (depth less : ℕ) (ts : List Lexeme) → depth ≡ suc less → c
 unfolding contents
 part_deeper depth less ts e = ap (λ d. inside d plain ts) e ∙ ap (λ (r : Read Formula). r ts) (open_inside less plain)
 
-list_deeper : (depth less : ℕ) (o : Operator) (ts : List Lexeme) → depth ≡ suc less → contents depth (content.List o) ts ≡ chain less (joint.Comma o) bracketed ts
-unfolding contents chain
+list_deeper : (depth less : ℕ) (o : Operator) (ts : List Lexeme) → depth ≡ suc less → contents depth (content.List o) ts ≡ list less o ts
+unfolding contents list
 list_deeper depth less o ts e = ap (λ d. made (joined o) (listed (inside d bracketed)) ts) e ∙ ap (λ (r : Read Formula). made (joined o) (listed r) ts) (open_inside less bracketed)
 
 -- a bracket less
 abbrev pub in_bracket : Content → ℕ → Read Formula
 in_bracket content.Inner less = piece less bracketed
 in_bracket content.Part less = piece less plain
-in_bracket (content.List o) less = chain less (joint.Comma o) bracketed
+in_bracket (content.List o) less = list less o
 
 pub contents_deeper : (c : Content) (depth less : ℕ) (ts : List Lexeme) → depth ≡ suc less → contents depth c ts ≡ in_bracket c less ts
 contents_deeper content.Inner depth less ts e = inner_deeper depth less ts e

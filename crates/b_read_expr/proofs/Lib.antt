@@ -1,5 +1,5 @@
 pub mod Loops
-pub mod Closing
+pub mod Passes
 pub mod Enough
 pub mod Laws
 pub mod Naming

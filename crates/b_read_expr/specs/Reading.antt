@@ -19,14 +19,13 @@ use Rattle.b_grammar.specs.declared.Mark.TheVariants as sign
 use Rattle.b_grammar.specs.declared.Symbol.{Symbol}
 use Rattle.b_grammar.specs.declared.Symbol.TheVariants as symbol
 use Rattle.b_grammar.specs.declared.Lexeme.{Lexeme}
-use Rattle.b_grammar.specs.Grammar.{priority, plain, bracketed, may_chain, arity, link, joined, mark_of, with_name, bound_names}
+use Rattle.b_grammar.specs.Grammar.{priority, plain, bracketed, arity, link, joined, mark_of, with_name, bound_names}
 use Rattle.b_grammar.specs.Grammar as grammar
 use Rattle.b_grammar.specs.Descent as descent
-use Rattle.b_grammar.specs.Descent.{Found, Read, with_found, never, done, headed, shut, ended, pair, each, made, such, or_else, cut_at, chained, has_priority, listed, is_comma, next, begins_after, after_names, is_mark, starts, reads_formula}
+use Rattle.b_grammar.specs.Descent.{Found, Read, with_found, never, done, headed, shut, ended, pair, each, made, such, or_else, cut_at, is_among, is_operator, listed, is_comma, next, begins_after, after_names, is_mark, starts, reads_formula}
 use Rattle.b_read_expr.specs.declared.Unread.{Unread}
 use Rattle.b_read_expr.specs.declared.Unread.TheVariants as unread
-use Rattle.b_read_expr.specs.declared.reading.Joint.{Joint}
-use Rattle.b_read_expr.specs.declared.reading.Joint.TheVariants as joint
+use Rattle.b_read_expr.specs.declared.grouping.Part.{Part}
 use Rattle.b_read_expr.specs.declared.reading.Content.{Content}
 use Rattle.b_read_expr.specs.declared.reading.Content.TheVariants as content
 use Rattle.b_read_expr.specs.declared.reading.Opener.{Opener}
@@ -72,45 +71,50 @@ form depth = headed (descent.form (inside depth))
 unfoldable pub afters : ℕ → Read (List After)
 afters depth = each begins_after (descent.one_after (inside depth))
 
--- ---- pieces with joints between them
-
-abbrev pub joins : Joint → Lexeme → Bool
-joins (joint.Priority p) = has_priority p
-joins (joint.Comma o) = is_comma
+-- ---- operators
 
 abbrev pub operator_if : Bool → Operator → Option Operator
 operator_if true o = Some o
 operator_if false o = None
 
--- the operator that a joint makes of a symbol
-abbrev pub joining : Joint → Symbol → Option Operator
-joining (joint.Priority p) (symbol.Operator o) = operator_if (priority o == p) o
-joining (joint.Comma o) (symbol.Mark sign.Comma) = Some o
-joining j y = None
+-- an operator of one of these priorities
+abbrev pub operator_of : List ℕ → Symbol → Option Operator
+operator_of levels (symbol.Operator o) = operator_if (is_among levels false (priority o)) o
+operator_of levels y = None
 
-abbrev pub link_if : Option Operator → Place → Found Formula → Found Link
-link_if None at q = None
-link_if (Some o) at q = with_found q (λ t rest. Some (link (o, at, t), rest))
+abbrev pub part_of : Operator → Place → Formula → Part
+part_of o at t = record { operator = o; at = at; operand = t }
 
-abbrev pub linked : Joint → Read Formula → Lexeme → Read Link
-linked j r s ts = link_if (joining j s.symbol) s.at (r ts)
+-- an operator and the operand behind it
+abbrev pub part : Read Formula → Lexeme → Read Part
+part r s = of s.symbol
+  where
+    of : Symbol → Read Part
+    of (symbol.Operator o) = made (part_of o s.at) r
+    of x = never
 
-unfoldable pub links : ℕ → Joint → List ℕ → Read (List Link)
-links depth j levels = each (joins j) (linked j (piece depth levels))
+unfoldable pub parts : ℕ → List ℕ → Read (List Part)
+parts depth levels = each (is_operator levels) (part (operand depth))
 
--- two comparisons don't stand in one chain
-abbrev pub may_link : Joint → List Link → Bool
-may_link (joint.Priority p) ls = may_chain p ls
-may_link (joint.Comma o) ls = true
+-- ---- commas
+
+abbrev pub comma_link : Operator → Read Formula → Lexeme → Read Link
+comma_link o r s = of (mark_of s.symbol)
+  where
+    of : Option Mark → Read Link
+    of (Some sign.Comma) = made (λ t. link (o, s.at, t)) r
+    of x = never
+
+unfoldable pub links : ℕ → Operator → Read (List Link)
+links depth o = each is_comma (comma_link o (piece depth bracketed))
 
 -- one piece stands for itself
 abbrev pub node : Formula → List Link → Formula
 node t [] = t
 node t (l ∷ ls) = formula.Chain t (l ∷ ls)
 
-unfoldable pub chain : ℕ → Joint → List ℕ → Read Formula
-chain depth (joint.Priority p) levels = chained p (piece depth levels)
-chain depth (joint.Comma o) levels = made (joined o) (listed (piece depth levels))
+unfoldable pub list : ℕ → Operator → Read Formula
+list depth o = made (joined o) (listed (piece depth bracketed))
 
 -- ---- brackets
 
@@ -211,14 +215,15 @@ abbrev pub AfterComma : List Lexeme → Option (Bor (List Lexeme)) → Type 0
 AfterComma ts None = behind sign.Comma ts ≡ None
 AfterComma ts (Some rest) = (behind sign.Comma ts ≡ Some rest.now) × (length rest.now < length ts)
 
-abbrev pub IsLoosest : List ℕ → Option (ℕ × Bor (List ℕ)) → Type 0
-IsLoosest levels None = levels ≡ []
-IsLoosest levels (Some p) = levels ≡ p.0 ∷ p.1.now
+-- the operator that a list begins with
+abbrev pub BeginsWith : List ℕ → List Lexeme → Option (Operator × Place × Bor (List Lexeme)) → Type 0
+BeginsWith levels ts None = starts (is_operator levels) ts ≡ false
+BeginsWith levels ts (Some p) = (s : Lexeme) × (ts ≡ s ∷ p.2.now) × (s.at ≡ p.1) × (operator_of levels s.symbol ≡ Some p.0)
 
--- the joint that a list begins with
-abbrev pub BeginsWith : Joint → List Lexeme → Option (Operator × Place × Bor (List Lexeme)) → Type 0
-BeginsWith j ts None = starts (joins j) ts ≡ false
-BeginsWith j ts (Some p) = (s : Lexeme) × (ts ≡ s ∷ p.2.now) × (s.at ≡ p.1) × (joining j s.symbol ≡ Some p.0)
+-- the comma that a list begins with
+abbrev pub BeginsWithComma : List Lexeme → Option (Place × Bor (List Lexeme)) → Type 0
+BeginsWithComma ts None = starts is_comma ts ≡ false
+BeginsWithComma ts (Some p) = (s : Lexeme) × (ts ≡ s ∷ p.1.now) × (s.at ≡ p.0) × (is_comma s ≡ true)
 
 abbrev pub and_mark : Bound → Option Mark → List Lexeme → Option (Bound × Mark × List Lexeme)
 and_mark b None ts = None

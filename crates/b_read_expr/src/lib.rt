@@ -22,6 +22,7 @@ impl From<AllocError> for Unread {
     }
 }
 
+mod grouping;
 mod names;
 mod nodes;
 mod reading;

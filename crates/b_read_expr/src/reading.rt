@@ -4,27 +4,18 @@ ghost use Rattle.b_read_expr.specs.Reading.{Reads};
 ghost use Rattle.b_read_expr.specs.Reading as spec;
 
 use crate::Unread;
+use crate::grouping::{Part, grouped};
 use crate::names::{bound_names, names_to_bar};
 use crate::nodes::{
     call_of, collected_of, comprehension_of, conditional_of, node, quantified_of, row_of,
 };
 use crate::steps::{
-    after_comma, behind, close_of, is_minus, joint_at, loosest, may_link, named, next, no_tree,
-    opener_at,
+    after_comma, behind, close_of, comma_at, is_minus, named, next, no_tree, opener_at, operator_at,
 };
 use b_ast::{After, Collector, Formula, Function, Link, Operator, Place, Quantifier};
 use b_grammar::{Lexeme, Mark, Symbol};
 use sqlite_items::{Boxed, Items};
 use std::alloc::Global;
-
-/// What stands between the pieces of a chain.
-#[derive(Clone, Copy)]
-pub enum Joint {
-    /// The operators of this priority.
-    Priority(u64),
-    /// A comma, which stands for this operator.
-    Comma(Operator),
-}
 
 /// What stands in a bracket.
 #[derive(Clone, Copy)]
@@ -68,51 +59,65 @@ pub fn formula<'a>(
 ) -> Result<(Formula, &'a [Lexeme]), Unread>
     ensures { Reads (spec.piece depth levels.now) lexemes.now result }
 {
-    match loosest(levels) {
-        Some((priority, tighter)) => chain(
-            alloc,
-            lexemes,
-            Joint::Priority(priority),
-            tighter,
-            depth,
-        ),
-        None => operand(alloc, lexemes, depth),
+    let (first, rest) = operand(alloc, lexemes, depth)?;
+    let (more, rest) = parts(alloc, rest, levels, depth)?;
+    match grouped(alloc, levels, first, more)? {
+        Some(tree) => Ok((tree, rest)),
+        None => Err(no_tree(rest)),
     }
 }
 
 #[cycle(reading)]
-fn chain<'a>(
+fn parts<'a>(
     alloc: Global,
     lexemes: &'a [Lexeme],
-    joint: Joint,
     levels: &[u64],
     depth: usize,
-) -> Result<(Formula, &'a [Lexeme]), Unread>
-    ensures { Reads (spec.chain depth joint levels.now) lexemes.now result }
+) -> Result<(Items<Part>, &'a [Lexeme]), Unread>
+    ensures { Reads (spec.parts depth levels.now) lexemes.now result }
 {
-    let (first, rest) = formula(alloc, lexemes, levels, depth)?;
-    let (more, rest) = links(alloc, rest, joint, levels, depth)?;
-    if may_link(joint, &more) {
-        Ok((node(alloc, first, more)?, rest))
-    } else {
-        Err(no_tree(rest))
+    let mut all = Items::new(alloc);
+    let mut rest = lexemes;
+    while let Some((operator, at, after)) = operator_at(rest, levels) {
+        let (operand, further) = operand(alloc, after, depth)?;
+        all.push(Part {
+            operator,
+            at,
+            operand,
+        })?;
+        rest = further;
     }
+    Ok((all, rest))
+}
+
+// Formulas with commas between them, as a chain of this operator.
+#[cycle(reading)]
+fn list<'a>(
+    alloc: Global,
+    lexemes: &'a [Lexeme],
+    operator: Operator,
+    depth: usize,
+) -> Result<(Formula, &'a [Lexeme]), Unread>
+    ensures { Reads (spec.list depth operator) lexemes.now result }
+{
+    let (first, rest) = formula(alloc, lexemes, &BRACKETED, depth)?;
+    let (more, rest) = links(alloc, rest, operator, depth)?;
+    Ok((node(alloc, first, more)?, rest))
 }
 
 #[cycle(reading)]
 fn links<'a>(
     alloc: Global,
     lexemes: &'a [Lexeme],
-    joint: Joint,
-    levels: &[u64],
+    operator: Operator,
     depth: usize,
 ) -> Result<(Items<Link>, &'a [Lexeme]), Unread>
-    ensures { Reads (spec.links depth joint levels.now) lexemes.now result }
+    ensures { Reads (spec.links depth operator) lexemes.now result }
 {
     let mut all = Items::new(alloc);
     let mut rest = lexemes;
-    while let Some((operator, at, after)) = joint_at(rest, joint) {
-        let (operand, further) = formula(alloc, after, levels, depth)?;
+    while let Some((at, after)) = comma_at(rest) {
+        let (operand, further) = formula(alloc, after, &BRACKETED, depth)?;
         all.push(Link {
             operator,
             at,
@@ -376,13 +381,7 @@ fn contents<'a>(
     match content {
         Content::Inner => formula(alloc, lexemes, &BRACKETED, depth - 1),
         Content::Part => formula(alloc, lexemes, &PLAIN, depth - 1),
-        Content::List(operator) => chain(
-            alloc,
-            lexemes,
-            Joint::Comma(operator),
-            &BRACKETED,
-            depth - 1,
-        ),
+        Content::List(operator) => list(alloc, lexemes, operator, depth - 1),
     }
 }
 

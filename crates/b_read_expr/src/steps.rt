@@ -1,12 +1,12 @@
 //! Small steps of reading.
-ghost use Rattle.std.specs.Prelude.{◌≡◌, ◌≤◌, length};
+ghost use Rattle.std.specs.Prelude.{◌≡◌, ◌≤◌, false, length};
 ghost use Rattle.b_grammar.specs.Grammar as grammar;
 ghost use Rattle.b_grammar.specs.Descent as descent;
 ghost use Rattle.b_read_expr.specs.Reading as spec;
 
 use crate::Unread;
-use crate::reading::{Bracket, Joint, Opener};
-use b_ast::{Formula, Link, Operator, Place};
+use crate::reading::{Bracket, Opener};
+use b_ast::{Formula, Operator, Place};
 use b_grammar::{Lexeme, Mark, Symbol};
 use sqlite_items::Items;
 use std::alloc::Global;
@@ -105,17 +105,8 @@ pub fn after_comma(lexemes: &[Lexeme]) -> Option<&[Lexeme]>
     }
 }
 
-/// The first of the priorities and the others.
-pub fn loosest(levels: &[u64]) -> Option<(u64, &[u64])>
-    ensures { spec.IsLoosest levels.now result }
-{
-    match levels {
-        [first, rest @ ..] => Some((*first, rest)),
-        [] => None,
-    }
-}
-
-fn priority(operator: Operator) -> u64
+/// How tightly an operator binds.
+pub fn priority(operator: Operator) -> u64
     ensures { result ≡ grammar.priority operator }
 {
     match operator {
@@ -165,28 +156,40 @@ fn priority(operator: Operator) -> u64
     }
 }
 
-fn joining(joint: Joint, symbol: &Symbol) -> Option<Operator>
-    ensures { result ≡ spec.joining joint symbol.now }
+fn is_among(levels: &[u64], level: u64) -> bool
+    ensures { result ≡ descent.is_among levels.now false level }
 {
-    match (joint, symbol) {
-        (Joint::Priority(wanted), Symbol::Operator(found)) => {
-            if priority(*found) == wanted {
+    let mut found = false;
+    for one in levels {
+        found = level == *one || found;
+    }
+    found
+}
+
+fn operator_of(symbol: &Symbol, levels: &[u64]) -> Option<Operator>
+    ensures { result ≡ spec.operator_of levels.now symbol.now }
+{
+    match symbol {
+        Symbol::Operator(found) => {
+            if is_among(levels, priority(*found)) {
                 Some(*found)
             } else {
                 None
             }
         }
-        (Joint::Comma(operator), Symbol::Mark(Mark::Comma)) => Some(operator),
         _ => None,
     }
 }
 
-/// The operator that the joint at the front stands for, its place, and what stands behind it.
-pub fn joint_at(lexemes: &[Lexeme], joint: Joint) -> Option<(Operator, Place, &[Lexeme])>
-    ensures { spec.BeginsWith joint lexemes.now result }
+/// The operator of one of these priorities at the front, its place, and what stands behind it.
+pub fn operator_at<'a>(
+    lexemes: &'a [Lexeme],
+    levels: &[u64],
+) -> Option<(Operator, Place, &'a [Lexeme])>
+    ensures { spec.BeginsWith levels.now lexemes.now result }
 {
     match next(lexemes) {
-        Ok((first, rest)) => match joining(joint, &first.symbol) {
+        Ok((first, rest)) => match operator_of(&first.symbol, levels) {
             Some(operator) => Some((operator, first.at, rest)),
             None => None,
         },
@@ -194,13 +197,19 @@ pub fn joint_at(lexemes: &[Lexeme], joint: Joint) -> Option<(Operator, Place, &[
     }
 }
 
-/// Two comparisons don't stand in one chain.
-pub fn may_link(joint: Joint, links: &Items<Link>) -> bool
-    ensures { result ≡ spec.may_link joint links.now }
+/// The place of a comma at the front, and what stands behind it.
+pub fn comma_at(lexemes: &[Lexeme]) -> Option<(Place, &[Lexeme])>
+    ensures { spec.BeginsWithComma lexemes.now result }
 {
-    match joint {
-        Joint::Priority(priority) => priority != 60 || links.len() < 2,
-        Joint::Comma(_) => true,
+    match next(lexemes) {
+        Ok((first, rest)) => {
+            if is_mark(Mark::Comma, &first.symbol) {
+                Some((first.at, rest))
+            } else {
+                None
+            }
+        }
+        Err(_) => None,
     }
 }
 

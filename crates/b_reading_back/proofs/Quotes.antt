@@ -11,7 +11,8 @@ use Rattle.b_lex.specs.declared.tokens.Token.{Token}
 use Rattle.b_lex.specs.Reading.{Reads}
 use Rattle.b_lex.specs.Strings.{IsBody, is_plain, escape_of}
 use Rattle.b_grammar.specs.declared.Symbol.TheVariants as symbol
-use Rattle.b_grammar.specs.Symbols.{value_from, between}
+use Rattle.b_lex.specs.Spelling.{unescape as value_from}
+use Rattle.b_grammar.specs.Symbols.{between}
 use Rattle.b_print.specs.Texts.{spelling_of, quoted}
 use Rattle.b_reading_back.specs.Printable.{IsStringValue}
 use Rattle.b_reading_back.proofs.Lexing.{Lexes, IsTaken, Any, token}

@@ -74,6 +74,16 @@ collected 2 chain@SIGMA(x,y).(x=y|x)
 quantified 1 chain@!x.(x = 1 => x = 2)
 row 2 name@f(1)(2)
 row 1 name@f(1,2)
+row 1 name@d(1)
+row 1 name@(d)(1)
+row 1 name@((d))(1)
+row 1 row@(d(1))(2)
+row 2 name@(d)(1)(2)
+chain 1 number@1 + (2) * 3
+chain 3 number@1 => 2 => 3 => 4
+chain 1 chain@1 & 2 => 3 or 4
+chain 2 chain@1 <=> 2 & 3 <=> 4 & 5 => 6 => 7
+chain 1 number@1 : 2 |-> 3 .. 4 - 5
 row 2 name@r~[{1}]
 comprehension 1 chain@{x | x : 1..2}
 comprehension 2 chain@{x,y | x = y}

@@ -7,6 +7,7 @@ use std::test::Fail;
 mod long;
 mod rows;
 mod tables;
+mod tokens;
 
 // The letter of a kind of token.
 fn letter(kind: TokenKind) -> u8 {

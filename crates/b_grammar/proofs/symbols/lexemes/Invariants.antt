@@ -1,4 +1,4 @@
-use Rattle.std.proofs.Common.{◌≡◌, ◌++◌, ◌+◌, ◌≤◌, ◌<◌, ◌^◌, ℕ, map, length}
+use Rattle.std.proofs.Common.{◌≡◌, ◌++◌, ◌+◌, ◌≤◌, ℕ, length}
 use Rattle.b_lex.specs.Reading.{AreSpans}
 use Rattle.b_grammar.specs.Symbols.{lexemes, lexemes_from}
 use Rattle.b_grammar.proofs.symbols.lexemes.Given as goal

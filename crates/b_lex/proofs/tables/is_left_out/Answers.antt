@@ -1,6 +1,11 @@
-use Rattle.b_lex.specs.Tables.{left_out_words}
+use Rattle.std.proofs.Common.{sym, ap, map}
+use Rattle.b_lex.specs.Tables.{has_entry, left_out_words}
+use Rattle.b_lex.proofs.InRows.{is_empty, entry_found}
 use Rattle.b_lex.proofs.tables.is_left_out.Goals as goal
 
-pub returns : goal.returns
+pub returns-in-empty : goal.returns-in-empty
 unfolding left_out_words
-returns c = c.find_entry.ensures
+returns-in-empty c = ap (has_entry left_out_words) (sym (is_empty c.args.word.now c.in-empty.len_below))
+
+pub returns-in-len1-up : goal.returns-in-len1-up
+returns-in-len1-up c = entry_found 32 left_out_words (map (λ e. e.now) c.left_out_with.result.now) c.args.word.now c.find_entry.result c.in-len1-up.len_at_least c.left_out_with.ensures c.find_entry.ensures

@@ -6,7 +6,6 @@ use Rattle.b_ast.specs.declared.After.TheVariants as after
 use Rattle.b_grammar.specs.declared.Mark.TheVariants as sign
 use Rattle.b_grammar.specs.declared.Symbol.TheVariants as symbol
 use Rattle.b_grammar.specs.Grammar as grammar
-use Rattle.b_read_expr.specs.declared.reading.Joint.TheVariants as joint
 use Rattle.b_read_expr.specs.declared.reading.Content.TheVariants as content
 use Rattle.b_read_expr.specs.declared.reading.Bracket.TheVariants as bracket
 use Rattle.b_read_expr.specs.Reading as spec
@@ -14,48 +13,70 @@ use Rattle.b_read_expr.proofs.Laws as laws
 use Rattle.b_read_expr.proofs.Exits as exits
 use Rattle.b_read_expr.proofs.reading.+reading.Goals as goal
 
-pub formula-returns-in-None : goal.formula-returns-in-None
-formula-returns-in-None t c =
-    exits.reads_on (spec.piece c.args.depth c.args.levels.now) (spec.operand c.args.depth) c.args.lexemes.now c.args.lexemes.now c.operand.result (exits.piece_empty c.args.depth c.args.levels.now c.args.lexemes.now c.in-None.ensures) (omega arith) c.operand.ensures
+pub formula-returns-in_err-first : goal.formula-returns-in_err-first
+formula-returns-in_err-first t c =
+    let p = err_from_is_err_and c.from_residual.result c.from_residual.ensures.1 in
+    rw (p.1, p.2) (laws.stops_on c.in_err-first.field-0.0 (spec.operand c.args.depth c.args.lexemes.now) (spec.piece c.args.depth c.args.levels.now c.args.lexemes.now) (laws.piece_none c.args.depth c.args.levels.now c.args.lexemes.now) c.in_err-first.ensures)
+
+pub formula-returns-in_err-more : goal.formula-returns-in_err-more
+formula-returns-in_err-more t c =
+    let p = err_from_is_err_and c.from_residual-in_err-more.result c.from_residual-in_err-more.ensures.1 in
+    rw (p.1, p.2) (laws.stops_on c.in_err-more.field-0.0 (spec.parts c.args.depth c.args.levels.now c.in_ok-first.rest.now) (spec.piece c.args.depth c.args.levels.now c.args.lexemes.now) (exits.piece_stops c.args.depth c.args.levels.now c.args.lexemes.now c.in_ok-first.first c.in_ok-first.rest.now c.in_ok-first.ensures.0) c.in_err-more.ensures)
 
 pub formula-returns-in-Some : goal.formula-returns-in-Some
 formula-returns-in-Some t c =
-    exits.reads_on (spec.piece c.args.depth c.args.levels.now) (spec.chain c.args.depth (joint.Priority c.in-Some.priority) c.in-Some.tighter.now) c.args.lexemes.now c.args.lexemes.now c.chain.result (exits.piece_more c.args.depth c.args.levels.now c.in-Some.priority c.in-Some.tighter.now c.args.lexemes.now c.in-Some.ensures) (omega arith) c.chain.ensures
+    let l = c.in_ok-first.ensures.1 in
+    let m = c.in_ok-more.ensures.1 in
+    (exits.piece_to c.args.depth c.args.levels.now c.args.lexemes.now c.in_ok-first.first c.in_ok-first.rest.now c.in_ok-more.more c.in_ok-more.rest.now (Some c.in-Some.tree) c.in_ok-first.ensures.0 c.in_ok-more.ensures.0 (sym c.in-Some.is ∙ c.in_ok-tree.ensures), omega arith)
 
-pub chain-returns-in_err-first : goal.chain-returns-in_err-first
-chain-returns-in_err-first t c =
+pub formula-returns-in-None : goal.formula-returns-in-None
+formula-returns-in-None t c =
+    exits.stops_none c.no_tree.result (spec.piece c.args.depth c.args.levels.now c.args.lexemes.now) (exits.piece_to c.args.depth c.args.levels.now c.args.lexemes.now c.in_ok-first.first c.in_ok-first.rest.now c.in_ok-more.more c.in_ok-more.rest.now None c.in_ok-first.ensures.0 c.in_ok-more.ensures.0 (sym c.in-None.is ∙ c.in_ok-tree.ensures))
+
+pub parts-loop-operator-init : goal.parts-loop-operator-init
+parts-loop-operator-init t c =
+    rw c.new-all.ensures (exits.parts_begin c.args.depth c.args.levels.now c.args.lexemes.now)
+
+pub parts-loop-operator-preserved : goal.parts-loop-operator-preserved
+parts-loop-operator-preserved t c =
+    rw c.in_ok-push.ensures.ok
+    (exits.parts_go c.args.depth c.args.levels.now c.args.lexemes.now c.loop-operator.all c.loop-operator.rest.now (c.in-Some.operator, c.in-Some.at, c.in-Some.after) c.in-Some.ensures c.in_ok-operand.operand c.in_ok-operand.further.now c.loop-operator.invariant c.in_ok-operand.ensures.0 c.in_ok-operand.ensures.1)
+
+pub parts-returns-in_err-operand : goal.parts-returns-in_err-operand
+parts-returns-in_err-operand t c =
     let p = err_from_is_err_and c.from_residual.result c.from_residual.ensures.1 in
-    rw (p.1, p.2) (laws.stops_on c.in_err-first.field-0.0 (spec.piece c.args.depth c.args.levels.now c.args.lexemes.now) (spec.chain c.args.depth c.args.joint c.args.levels.now c.args.lexemes.now) (laws.chain_none c.args.depth c.args.joint c.args.levels.now c.args.lexemes.now) c.in_err-first.ensures)
+    rw (p.1, p.2) (laws.stops_on c.in_err-operand.field-0.0 (spec.operand c.args.depth c.in-Some.after.now) (spec.parts c.args.depth c.args.levels.now c.args.lexemes.now) (exits.parts_stop c.args.depth c.args.levels.now c.args.lexemes.now c.loop-operator.all c.loop-operator.rest.now (c.in-Some.operator, c.in-Some.at, c.in-Some.after) c.in-Some.ensures c.loop-operator.invariant) c.in_err-operand.ensures)
 
-pub chain-returns-in_err-more : goal.chain-returns-in_err-more
-chain-returns-in_err-more t c =
+pub list-returns-in_err-first : goal.list-returns-in_err-first
+list-returns-in_err-first t c =
+    let p = err_from_is_err_and c.from_residual.result c.from_residual.ensures.1 in
+    rw (p.1, p.2) (laws.stops_on c.in_err-first.field-0.0 (spec.piece c.args.depth grammar.bracketed c.args.lexemes.now) (spec.list c.args.depth c.args.operator c.args.lexemes.now) (laws.list_none c.args.depth c.args.operator c.args.lexemes.now) c.in_err-first.ensures)
+
+pub list-returns-in_err-more : goal.list-returns-in_err-more
+list-returns-in_err-more t c =
     let p = err_from_is_err_and c.from_residual-in_err-more.result c.from_residual-in_err-more.ensures.1 in
-    rw (p.1, p.2) (laws.stops_on c.in_err-more.field-0.0 (spec.links c.args.depth c.args.joint c.args.levels.now c.in_ok-first.rest.now) (spec.chain c.args.depth c.args.joint c.args.levels.now c.args.lexemes.now) (exits.chain_stops c.args.depth c.args.joint c.args.levels.now c.args.lexemes.now c.in_ok-first.first c.in_ok-first.rest.now c.in_ok-first.ensures.0) c.in_err-more.ensures)
+    rw (p.1, p.2) (laws.stops_on c.in_err-more.field-0.0 (spec.links c.args.depth c.args.operator c.in_ok-first.rest.now) (spec.list c.args.depth c.args.operator c.args.lexemes.now) (exits.list_stops c.args.depth c.args.operator c.args.lexemes.now c.in_ok-first.first c.in_ok-first.rest.now c.in_ok-first.ensures.0) c.in_err-more.ensures)
 
-pub chain-returns-then-may_link : goal.chain-returns-then-may_link
-chain-returns-then-may_link t c =
-    let f = c.in_ok-first.ensures.1 in
+pub list-returns : goal.list-returns
+list-returns t c =
+    let l = c.in_ok-first.ensures.1 in
     let m = c.in_ok-more.ensures.1 in
     rw c.in_ok-node.ensures
-    (exits.chain_found c.args.depth c.args.joint c.args.levels.now c.args.lexemes.now c.in_ok-first.first c.in_ok-first.rest.now c.in_ok-more.more c.in_ok-more.rest.now c.in_ok-first.ensures.0 c.in_ok-more.ensures.0 (sym c.if-may_link.ensures), omega arith)
+    (exits.list_found c.args.depth c.args.operator c.args.lexemes.now c.in_ok-first.first c.in_ok-first.rest.now c.in_ok-more.more c.in_ok-more.rest.now c.in_ok-first.ensures.0 c.in_ok-more.ensures.0, omega arith)
 
-pub chain-returns : goal.chain-returns
-chain-returns t c =
-    exits.stops_none c.no_tree.result (spec.chain c.args.depth c.args.joint c.args.levels.now c.args.lexemes.now) (exits.chain_refused c.args.depth c.args.joint c.args.levels.now c.args.lexemes.now c.in_ok-first.first c.in_ok-first.rest.now c.in_ok-more.more c.in_ok-more.rest.now c.in_ok-first.ensures.0 c.in_ok-more.ensures.0 (sym c.if-may_link.ensures))
+pub links-loop-at-init : goal.links-loop-at-init
+links-loop-at-init t c =
+    rw c.new-all.ensures (exits.links_begin c.args.depth c.args.operator c.args.lexemes.now)
 
-pub links-loop-operator-init : goal.links-loop-operator-init
-links-loop-operator-init t c =
-    rw c.new-all.ensures (exits.links_begin c.args.depth c.args.joint c.args.levels.now c.args.lexemes.now)
-
-pub links-loop-operator-preserved : goal.links-loop-operator-preserved
-links-loop-operator-preserved t c =
+pub links-loop-at-preserved : goal.links-loop-at-preserved
+links-loop-at-preserved t c =
     rw c.in_ok-push.ensures.ok
-    (exits.links_go c.args.depth c.args.joint c.args.levels.now c.args.lexemes.now c.loop-operator.all c.loop-operator.rest.now (c.in-Some.operator, c.in-Some.at, c.in-Some.after) c.in-Some.ensures c.in_ok-operand.operand c.in_ok-operand.further.now c.loop-operator.invariant c.in_ok-operand.ensures.0 c.in_ok-operand.ensures.1)
+    (exits.links_go c.args.depth c.args.operator c.args.lexemes.now c.loop-at.all c.loop-at.rest.now (c.in-Some.at, c.in-Some.after) c.in-Some.ensures c.in_ok-operand.operand c.in_ok-operand.further.now c.loop-at.invariant c.in_ok-operand.ensures.0 c.in_ok-operand.ensures.1)
 
 pub links-returns-in_err-operand : goal.links-returns-in_err-operand
 links-returns-in_err-operand t c =
     let p = err_from_is_err_and c.from_residual.result c.from_residual.ensures.1 in
-    rw (p.1, p.2) (laws.stops_on c.in_err-operand.field-0.0 (spec.piece c.args.depth c.args.levels.now c.in-Some.after.now) (spec.links c.args.depth c.args.joint c.args.levels.now c.args.lexemes.now) (exits.links_stop c.args.depth c.args.joint c.args.levels.now c.args.lexemes.now c.loop-operator.all c.loop-operator.rest.now (c.in-Some.operator, c.in-Some.at, c.in-Some.after) c.in-Some.ensures c.loop-operator.invariant) c.in_err-operand.ensures)
+    rw (p.1, p.2) (laws.stops_on c.in_err-operand.field-0.0 (spec.piece c.args.depth grammar.bracketed c.in-Some.after.now) (spec.links c.args.depth c.args.operator c.args.lexemes.now) (exits.links_stop c.args.depth c.args.operator c.args.lexemes.now c.loop-at.all c.loop-at.rest.now (c.in-Some.at, c.in-Some.after) c.in-Some.ensures c.loop-at.invariant) c.in_err-operand.ensures)
 
 pub operand-returns-in_err-first : goal.operand-returns-in_err-first
 operand-returns-in_err-first t c =
@@ -342,7 +363,7 @@ contents-returns-in-Part t c =
 pub contents-returns-in-List : goal.contents-returns-in-List
 contents-returns-in-List t c =
     let deeper : c.args.depth ≡ suc (c.args.depth - 1) = omega (arith, c.if-depth-eq0.false) in
-    exits.reads_on (spec.contents c.args.depth c.args.content) (spec.chain (c.args.depth - 1) (joint.Comma c.in-List.operator) grammar.bracketed) c.args.lexemes.now c.args.lexemes.now c.chain.result (exits.contents_law c.args.content (content.List c.in-List.operator) c.args.depth (c.args.depth - 1) c.args.lexemes.now c.in-List.is deeper) (omega arith) c.chain.ensures
+    exits.reads_on (spec.contents c.args.depth c.args.content) (spec.list (c.args.depth - 1) c.in-List.operator) c.args.lexemes.now c.args.lexemes.now c.list.result (exits.contents_law c.args.content (content.List c.in-List.operator) c.args.depth (c.args.depth - 1) c.args.lexemes.now c.in-List.is deeper) (omega arith) c.list.ensures
 
 pub listing-returns-in-Ok : goal.listing-returns-in-Ok
 listing-returns-in-Ok t c =

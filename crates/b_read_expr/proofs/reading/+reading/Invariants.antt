@@ -1,16 +1,19 @@
 use Rattle.std.proofs.Common.{◌≡◌, ◌+◌, ◌*◌, ◌≤◌, length}
-use Rattle.b_read_expr.proofs.Exits.{LinksRead, AftersRead, ItemsRead}
+use Rattle.b_read_expr.proofs.Exits.{PartsRead, LinksRead, AftersRead, ItemsRead}
 use Rattle.b_read_expr.proofs.reading.+reading.Given as goal
 
--- more brackets may open, or fewer priorities are left, or a smaller part is read
-abbrev pub decreases-formula : goal.decreases-formula
-decreases-formula l = 60 * l.depth + 3 * length l.levels.now + 20
+-- more brackets may open, or a smaller part is read
+abbrev pub decreases-list : goal.decreases-list
+decreases-list l = 60 * l.depth + 16
 
 abbrev pub decreases-links : goal.decreases-links
-decreases-links l = 60 * l.depth + 3 * length l.levels.now + 21
+decreases-links l = 60 * l.depth + 15
 
-abbrev pub decreases-chain : goal.decreases-chain
-decreases-chain l = 60 * l.depth + 3 * length l.levels.now + 22
+abbrev pub decreases-formula : goal.decreases-formula
+decreases-formula l = 60 * l.depth + 14
+
+abbrev pub decreases-parts : goal.decreases-parts
+decreases-parts l = 60 * l.depth + 13
 
 abbrev pub decreases-operand : goal.decreases-operand
 decreases-operand l = 60 * l.depth + 12
@@ -57,11 +60,17 @@ decreases-items l = 60 * l.depth + 2
 abbrev pub decreases-contents : goal.decreases-contents
 decreases-contents l = 60 * l.depth + 1
 
-abbrev pub invariant-links-loop-operator : goal.invariant-links-loop-operator
-invariant-links-loop-operator l = LinksRead l.depth l.joint l.levels l.lexemes l.all l.rest
+abbrev pub invariant-parts-loop-operator : goal.invariant-parts-loop-operator
+invariant-parts-loop-operator l = PartsRead l.depth l.levels l.lexemes l.all l.rest
 
-abbrev pub decreases-links-loop-operator : goal.decreases-links-loop-operator
-decreases-links-loop-operator l = length l.rest
+abbrev pub decreases-parts-loop-operator : goal.decreases-parts-loop-operator
+decreases-parts-loop-operator l = length l.rest
+
+abbrev pub invariant-links-loop-at : goal.invariant-links-loop-at
+invariant-links-loop-at l = LinksRead l.depth l.operator l.lexemes l.all l.rest
+
+abbrev pub decreases-links-loop-at : goal.decreases-links-loop-at
+decreases-links-loop-at l = length l.rest
 
 abbrev pub invariant-afters-loop-opener : goal.invariant-afters-loop-opener
 invariant-afters-loop-opener l = AftersRead l.depth l.lexemes l.all l.rest

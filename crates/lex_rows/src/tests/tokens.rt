@@ -1,4 +1,5 @@
-use crate::{
+// Each kind of token, each fault, and what tokens stand for.
+use b_lex::{
     LexFault, LexKind, Token, TokenKind, is_left_out, lex, number_value, one_reading,
     spelled_tokens, text_value, token_text,
 };
