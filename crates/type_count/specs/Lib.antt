@@ -1,0 +1,4 @@
+pub mod Typings
+pub mod Spending
+pub mod Counted
+pub mod Telling

@@ -1,0 +1,5 @@
+pub mod Shortness
+pub mod Covering
+pub mod Joining
+pub mod Demands
+pub mod Opening

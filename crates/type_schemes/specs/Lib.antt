@@ -1,0 +1,4 @@
+pub mod Rules
+pub mod Schemes
+pub mod Growing
+pub mod SchemeLaws
