@@ -1,0 +1,4 @@
+use Rattle.b_rows.proofs.gathering.sum_at.Goals as goal
+
+pub returns-clause-value : goal.returns-clause-value
+returns-clause-value c = c.at_place.ensures.value _ (rw c.sum.ensures.value at c.plain.ensures.value)
