@@ -15,7 +15,7 @@ pub fn tree_of(alloc: Global, lexemes: &[Lexeme]) -> Result<Formula, Unread>
 {
     let (tree, rest) = formula(alloc, lexemes, &PLAIN, lexemes.len())?;
     if rest.is_empty() {
-        Ok(tree)
+        Ok(tree.into_inner())
     } else {
         Err(no_tree(rest))
     }
