@@ -70,7 +70,7 @@ fn is_nest_read(alloc: Global, nest: Nest, count: u64) -> bool {
 fn brackets_in_a_small_thread(rt: HostRuntime) -> Result<(), Fail> {
     let alloc = rt.alloc();
     for nest in NESTS {
-        for count in [100u64] {
+        for count in [100u64, 500] {
             let child = Builder::new()
                 .stack_size(2 << 20)
                 .spawn(&rt, move || is_nest_read(alloc, nest, count))?;

@@ -1,4 +1,4 @@
-use Rattle.std.proofs.Common.{◌≡◌, ◌∙◌, arith, ap, length}
+use Rattle.std.proofs.Common.{arith}
 use Rattle.b_ast.specs.declared.Formula.TheVariants as formula
 use Rattle.b_grammar.specs.Descent.{done}
 use Rattle.b_read_expr.specs.Reading as spec

@@ -1,4 +1,4 @@
-use Rattle.std.proofs.Common.{◌≡◌, sym}
+use Rattle.std.proofs.Common.{sym}
 use Rattle.std.proofs.lemmas.Result.{err_from_is_err_and}
 use Rattle.b_read_expr.proofs.Whole.{tree_stops, tree_whole, tree_left}
 use Rattle.b_read_expr.proofs.trees.tree_of.Goals as goal
