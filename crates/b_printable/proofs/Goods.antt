@@ -1,16 +1,16 @@
 -- The lexemes of a text are good: its names are names, its numbers aren't too wide, and its strings stand for values.
-use Rattle.std.proofs.Common.{◌≡◌, ◌∙◌, ap, sym, subst, refl, ℕ, ◌-◌, ◌^◌, ◌≤◌, ◌<◌, ◌==◌, Bool, true, false, cond, Some, None, List, [], ◌∷◌, ◌++◌, length, take, arith, length-append, nat_lt}
-use Rattle.std.specs.Prelude.{encode_utf8, not, nat_le}
+use Rattle.std.proofs.Common.{◌≡◌, ◌∙◌, ap, sym, subst, refl, ℕ, ◌-◌, ◌^◌, ◌≤◌, ◌<◌, ◌==◌, Bool, true, false, cond, Option, Some, List, [], ◌∷◌, ◌++◌, length, take, arith, length-append, nat_lt}
+use Rattle.std.specs.Prelude.{encode_utf8, not, nat_le, unwrap_or}
 use Rattle.std.specs.List.{list_all, AllByRecursion}
 use Rattle.std.proofs.Math.Utf8.{encode}
 use Rattle.std.proofs.Math.Seq.{take-append_seam}
-use Rattle.std.proofs.lemmas.Bool.{and_parts, ne_eqb, not-true, not_from_false, eqb-true, le-ltb}
+use Rattle.std.proofs.lemmas.Bool.{and_parts, ne_eqb, not-true, not_from_false, le-ltb}
 use Rattle.b_lex.specs.declared.tokens.Token.{Token}
 use Rattle.b_lex.specs.declared.tokens.TokenKind.{TokenKind}
 use Rattle.b_lex.specs.declared.tokens.TokenKind.TheVariants as kind
 use Rattle.b_lex.specs.Bytes.{decimal}
 use Rattle.b_lex.specs.Strings.{IsBody, is_plain, escape_of}
-use Rattle.b_lex.specs.Spelling.{IsText, IsSpelled, AreSpelled}
+use Rattle.b_lex.specs.Spelling.{unescape as value_from, IsText, IsSpelled, AreSpelled}
 use Rattle.b_lex.specs.Reading.{AreTokens, spelling}
 use Rattle.b_lex.proofs.Spelled.{tokens_spelled}
 use Rattle.b_grammar.specs.declared.Symbol.{Symbol}
@@ -18,7 +18,7 @@ use Rattle.b_grammar.specs.declared.Symbol.TheVariants as symbol
 use Rattle.b_grammar.specs.declared.Lexeme.{Lexeme}
 use Rattle.b_grammar.specs.declared.symbols.Fixed.{Fixed}
 use Rattle.b_grammar.specs.declared.symbols.Fixed.TheVariants as fixed
-use Rattle.b_grammar.specs.Symbols.{escaped, value_from, string_value, between, number_symbol, fixed_of, symbol_of_fixed, symbol_of, depth_after, lexemes_from, lexemes}
+use Rattle.b_grammar.specs.Symbols.{string_value, between, number_symbol, fixed_of, symbol_of_fixed, symbol_of, depth_after, lexemes_from, lexemes}
 use Rattle.b_reading_back.specs.Printable.{IsName, IsStringValue}
 
 -- what a tree may take from a symbol
@@ -72,24 +72,8 @@ no_slashes c plain =
     (other _ (λ e. omega arith)) (other _ (λ e. omega arith)) (other _ (λ e. omega arith)) (other _ (λ e. omega arith))
 
 -- what a letter behind a backslash stands for, where it stands for something
-letter_value : (letter b : ℕ) → escape_of letter ≡ Some b → escaped letter ≡ b
-letter_value letter b e = by_quote (letter == 34) refl e
-  where
-    by_tab : (t : Bool) → (letter == 116) ≡ t → cond t (Some 9) None ≡ Some b → escaped letter ≡ b
-    by_tab true i e = let same : 9 ≡ b = cc in ap escaped (eqb-true letter 116 i) ∙ same
-    by_tab false i e = absurd (cc)
-
-    by_line : (t : Bool) → (letter == 110) ≡ t → cond t (Some 10) (cond (letter == 116) (Some 9) None) ≡ Some b → escaped letter ≡ b
-    by_line true i e = let same : 10 ≡ b = cc in ap escaped (eqb-true letter 110 i) ∙ same
-    by_line false i e = by_tab (letter == 116) refl e
-
-    by_slash : (t : Bool) → (letter == 92) ≡ t → cond t (Some 92) (cond (letter == 110) (Some 10) (cond (letter == 116) (Some 9) None)) ≡ Some b → escaped letter ≡ b
-    by_slash true i e = let same : 92 ≡ b = cc in ap escaped (eqb-true letter 92 i) ∙ same
-    by_slash false i e = by_line (letter == 110) refl e
-
-    by_quote : (t : Bool) → (letter == 34) ≡ t → cond t (Some 34) (cond (letter == 92) (Some 92) (cond (letter == 110) (Some 10) (cond (letter == 116) (Some 9) None))) ≡ Some b → escaped letter ≡ b
-    by_quote true i e = let same : 34 ≡ b = cc in ap escaped (eqb-true letter 34 i) ∙ same
-    by_quote false i e = by_slash (letter == 92) refl e
+letter_value : (letter b : ℕ) → escape_of letter ≡ Some b → unwrap_or (escape_of letter) letter ≡ b
+letter_value letter b e = ap (λ (o : Option ℕ). unwrap_or o letter) e
 
 -- bytes between quotes have the value that they stand for
 body_value : (body value : List ℕ) → IsBody body value → value_from false body ≡ value

@@ -1,5 +1,5 @@
 -- No more brackets are open in a formula than it has lexemes.
-use Rattle.std.proofs.Common.{◌≡◌, inl, inr, ◌+◌, ◌==◌, ◌≤◌, ◌<◌, ℕ, zero, suc, Bool, true, false, List, [], ◌∷◌, ◌++◌, length, Some, None, arith, refl, ap, ◌∙◌, length-append}
+use Rattle.std.proofs.Common.{◌≡◌, inl, inr, ◌+◌, ◌==◌, ◌≤◌, ℕ, zero, suc, Bool, true, false, List, [], ◌∷◌, ◌++◌, length, Some, None, arith, refl, ap, ◌∙◌, length-append}
 use Rattle.b_ast.specs.declared.Place.{Place}
 use Rattle.b_ast.specs.declared.Bound.{Bound}
 use Rattle.b_ast.specs.declared.Function.{Function}

@@ -1,5 +1,5 @@
 -- What a function answers at each of its exits.
-use Rattle.std.proofs.Common.{◌≡◌, ◌≢◌, ◌+◌, ◌-◌, ◌<◌, ◌≤◌, ◌==◌, ℕ, zero, suc, Bool, true, false, List, [], ◌∷◌, ◌++◌, length, Option, Some, None, Result, Ok, Err, arith, refl, sym, ap, ◌∙◌, subst}
+use Rattle.std.proofs.Common.{◌≡◌, ◌≢◌, ◌<◌, ◌≤◌, ◌==◌, ℕ, suc, Bool, true, false, List, [], ◌∷◌, ◌++◌, length, Option, Some, None, Result, Ok, Err, arith, refl, sym, ap, ◌∙◌}
 use denote.Ref.{Bor}
 use Rattle.b_ast.specs.declared.Place.{Place}
 use Rattle.b_ast.specs.declared.Bound.{Bound}
@@ -31,7 +31,7 @@ use Rattle.b_read_expr.specs.declared.reading.Bracket.{Bracket}
 use Rattle.b_read_expr.specs.declared.reading.Bracket.TheVariants as bracket
 use Rattle.b_read_expr.specs.Reading.{Stops, Reads, inside, piece, operand, whole_row, form, one_after, afters, part_of, part, parts, comma_link, links, node, list, contents, enclosed, close_of, listing, items, marked, conditional, call, call_if, call_node, collected, behind, BeginsWith, BeginsWithComma, BeginsAfter}
 use Rattle.b_read_expr.specs.Grouping.{tree}
-use Rattle.b_read_expr.proofs.Loops.{IsReading, begin, begin_after, ends, fails, goes, after_these}
+use Rattle.b_read_expr.proofs.Loops.{IsReading, begin, begin_after, ends, fails, goes}
 use Rattle.b_read_expr.proofs.Laws.{stops_on, and_rest, grouped_on, piece_is, operator_starts, part_is, list_is, comma_begins, comma_is, operand_minus, operand_plain, operand_end, row_is, contents_none, in_bracket, contents_deeper, enclosed_is, after_is, opener_begins, item, items_is, comma_starts, comma_stops, item_is, listing_is, form_end, form_by, form_is, call_is, collected_is, conditional_is, marked_by, marked_is}
 
 -- ---- in general

@@ -1,5 +1,5 @@
 -- Loops that read names.
-use Rattle.std.proofs.Common.{◌≡◌, ◌≢◌, ◌<◌, ◌≤◌, ℕ, List, [], ◌∷◌, ◌++◌, length, Option, Some, None, arith, refl, sym, ap, ◌∙◌, append_assoc, append-nil}
+use Rattle.std.proofs.Common.{◌≡◌, ◌≢◌, ◌<◌, ◌≤◌, List, [], ◌∷◌, ◌++◌, length, Option, Some, None, arith, refl, sym, ap, ◌∙◌, append_assoc}
 use Rattle.b_ast.specs.declared.Place.{Place}
 use Rattle.b_ast.specs.declared.Bound.{Bound}
 use Rattle.b_grammar.specs.declared.Mark.{Mark}
@@ -7,7 +7,7 @@ use Rattle.b_grammar.specs.declared.Mark.TheVariants as sign
 use Rattle.b_grammar.specs.declared.Symbol.{Symbol}
 use Rattle.b_grammar.specs.declared.Symbol.TheVariants as symbol
 use Rattle.b_grammar.specs.declared.Lexeme.{Lexeme}
-use Rattle.b_grammar.specs.Grammar.{mark_of, Names, with_name, and_name, named, to_bar_after, to_dot_after, after_dot, names_to_bar, names_to_dot, bound_names}
+use Rattle.b_grammar.specs.Grammar.{mark_of, Names, with_name, and_name, named, to_bar_after, to_dot_after, after_dot, names_to_bar, names_to_dot}
 use Rattle.b_read_expr.specs.Reading.{and_mark, name_and_mark}
 use Rattle.b_read_expr.proofs.Loops.{after_these}
 

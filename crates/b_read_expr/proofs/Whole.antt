@@ -4,7 +4,7 @@ use Rattle.std.proofs.lemmas.Bool.{eqb-true}
 use Rattle.b_ast.specs.declared.Formula.{Formula}
 use Rattle.b_grammar.specs.declared.Lexeme.{Lexeme}
 use Rattle.b_grammar.specs.Grammar.{plain, IsFormulaText}
-use Rattle.b_grammar.specs.Descent.{Read, reads_formula}
+use Rattle.b_grammar.specs.Descent.{reads_formula}
 use Rattle.b_grammar.proofs.Ways.{same_found}
 use Rattle.b_grammar.proofs.Descent.{all_read, is_read}
 use Rattle.b_read_expr.proofs.Enough.{few_open}

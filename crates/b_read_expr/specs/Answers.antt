@@ -1,5 +1,5 @@
 -- What reading answers.
-use Rattle.std.specs.Prelude.{◌≡◌, List, Result, Ok, Err}
+use Rattle.std.specs.Prelude.{List, Result, Ok, Err}
 use Rattle.b_ast.specs.declared.Formula.{Formula}
 use Rattle.b_grammar.specs.declared.Lexeme.{Lexeme}
 use Rattle.b_grammar.specs.Grammar.{IsFormulaText}

@@ -1,5 +1,5 @@
 -- Rows of operands as the descent sees them. Only private functions' clauses cite this.
-use Rattle.std.specs.Prelude.{ℕ, Bool, ◌==◌, List, [], ◌∷◌, Option, map, reverse}
+use Rattle.std.specs.Prelude.{ℕ, Bool, ◌==◌, List, Option, map, reverse}
 use Rattle.b_ast.specs.declared.Formula.{Formula}
 use Rattle.b_grammar.specs.Grammar as grammar
 use Rattle.b_grammar.specs.Grammar.{priority}

@@ -9,7 +9,7 @@ ghost use Rattle.b_read_expr.specs.Grouping as spec;
 use crate::nodes::node;
 use crate::steps::priority;
 use b_ast::{Formula, Link, Operator, Place};
-use sqlite_items::Items;
+use sqlite_items::{Boxed, Items};
 use std::alloc::{AllocError, Global};
 
 /// An operator, its place and the operand behind it.
@@ -17,13 +17,13 @@ use std::alloc::{AllocError, Global};
 pub struct Part {
     pub operator: Operator,
     pub at: Place,
-    pub operand: Formula,
+    pub operand: Boxed<Formula>,
 }
 
 // An operand and the parts behind it.
 #[derive(Drop)]
 struct Row {
-    first: Formula,
+    first: Boxed<Formula>,
     parts: Items<Part>,
 }
 
@@ -55,7 +55,7 @@ fn links_of(alloc: Global, run: Items<Part>) -> Result<Items<Link>, AllocError>
         links.push(Link {
             operator,
             at,
-            operand,
+            operand: operand.into_inner(),
         })?;
     }
     Ok(links)
@@ -64,9 +64,9 @@ fn links_of(alloc: Global, run: Items<Part>) -> Result<Items<Link>, AllocError>
 fn chain_of(
     alloc: Global,
     level: u64,
-    first: Formula,
+    first: Boxed<Formula>,
     run: Items<Part>,
-) -> Result<Option<Formula>, AllocError>
+) -> Result<Option<Boxed<Formula>>, AllocError>
     ensures { IfOk result (λ q. q ≡ descent.chain_at level first (spec.from_last run)) }
 {
     if may_chain(level, &run) {
@@ -187,7 +187,7 @@ fn level_merged(alloc: Global, level: u64, row: Row) -> Result<Option<Row>, Allo
     }
 }
 
-fn alone(row: Row) -> Option<Formula>
+fn alone(row: Row) -> Option<Boxed<Formula>>
     ensures { result ≡ descent.alone (spec.row_of row) }
 {
     let Row { first, parts } = row;
@@ -200,9 +200,9 @@ fn alone(row: Row) -> Option<Formula>
 pub fn grouped(
     alloc: Global,
     levels: &[u64],
-    first: Formula,
+    first: Boxed<Formula>,
     parts: Items<Part>,
-) -> Result<Option<Formula>, AllocError>
+) -> Result<Option<Boxed<Formula>>, AllocError>
     ensures { IfOk result (λ q. q ≡ spec.tree levels.now first parts) }
 {
     let mut row = Row { first, parts };

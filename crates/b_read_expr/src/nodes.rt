@@ -2,32 +2,55 @@
 ghost use Rattle.std.specs.Prelude.{◌≡◌, IfOk};
 ghost use Rattle.b_ast.specs.declared.Formula.TheVariants as formula;
 ghost use Rattle.b_grammar.specs.Grammar as grammar;
+ghost use Rattle.b_grammar.specs.Descent.{done};
 ghost use Rattle.b_read_expr.specs.Reading as spec;
 
+use crate::Unread;
 use b_ast::{After, Bound, Collector, Formula, Function, Link, Place, Quantifier};
+use b_grammar::Lexeme;
 use sqlite_items::{Boxed, Items};
 use std::alloc::{AllocError, Global};
 
 /// A chain; one piece stands for itself.
-pub fn node(alloc: Global, first: Formula, links: Items<Link>) -> Result<Formula, AllocError>
+pub fn node(
+    alloc: Global,
+    first: Boxed<Formula>,
+    links: Items<Link>,
+) -> Result<Boxed<Formula>, AllocError>
     ensures { IfOk result (λ t. t ≡ spec.node first links) }
 {
     if links.is_empty() {
         Ok(first)
     } else {
-        Ok(Formula::Chain(Boxed::new(alloc, first)?, links))
+        Boxed::new(alloc, Formula::Chain(first, links))
     }
 }
 
 /// An operand with the forms after it; without them it stands for itself.
-pub fn row_of(alloc: Global, first: Formula, afters: Items<After>) -> Result<Formula, AllocError>
+pub fn row_of(
+    alloc: Global,
+    first: Boxed<Formula>,
+    afters: Items<After>,
+) -> Result<Boxed<Formula>, AllocError>
     ensures { IfOk result (λ t. t ≡ grammar.row (first, afters)) }
 {
     if afters.is_empty() {
         Ok(first)
     } else {
-        Ok(Formula::Row(Boxed::new(alloc, first)?, afters))
+        Boxed::new(alloc, Formula::Row(first, afters))
     }
+}
+
+/// A tree, and what is left behind it.
+#[inline(never)]
+pub fn leaf(
+    alloc: Global,
+    tree: Formula,
+    lexemes: &[Lexeme],
+) -> Result<(Boxed<Formula>, &[Lexeme]), Unread>
+    ensures { spec.Reads (done tree) lexemes.now result }
+{
+    Ok((Boxed::new(alloc, tree)?, lexemes))
 }
 
 // How many arguments a function word has.
@@ -56,11 +79,11 @@ pub fn quantified_of(
     at: Place,
     quantifier: Quantifier,
     names: Items<Bound>,
-    body: Formula,
-) -> Result<Formula, AllocError>
+    body: Boxed<Formula>,
+) -> Result<Boxed<Formula>, AllocError>
     ensures { IfOk result (λ t. t ≡ formula.Quantified at quantifier names body) }
 {
-    Ok(Formula::Quantified(at, quantifier, names, Boxed::new(alloc, body)?))
+    Boxed::new(alloc, Formula::Quantified(at, quantifier, names, body))
 }
 
 pub fn collected_of(
@@ -68,36 +91,36 @@ pub fn collected_of(
     at: Place,
     collector: Collector,
     names: Items<Bound>,
-    condition: Formula,
-    body: Formula,
-) -> Result<Formula, AllocError>
+    condition: Boxed<Formula>,
+    body: Boxed<Formula>,
+) -> Result<Boxed<Formula>, AllocError>
     ensures { IfOk result (λ t. t ≡ formula.Collected at collector names condition body) }
 {
-    let condition = Boxed::new(alloc, condition)?;
-    Ok(Formula::Collected(at, collector, names, condition, Boxed::new(alloc, body)?))
+    Boxed::new(
+        alloc,
+        Formula::Collected(at, collector, names, condition, body),
+    )
 }
 
 pub fn comprehension_of(
     alloc: Global,
     at: Place,
     names: Items<Bound>,
-    body: Formula,
-) -> Result<Formula, AllocError>
+    body: Boxed<Formula>,
+) -> Result<Boxed<Formula>, AllocError>
     ensures { IfOk result (λ t. t ≡ formula.Comprehension at names body) }
 {
-    Ok(Formula::Comprehension(at, names, Boxed::new(alloc, body)?))
+    Boxed::new(alloc, Formula::Comprehension(at, names, body))
 }
 
 pub fn conditional_of(
     alloc: Global,
     at: Place,
-    condition: Formula,
-    then: Formula,
-    other: Formula,
-) -> Result<Formula, AllocError>
+    condition: Boxed<Formula>,
+    then: Boxed<Formula>,
+    other: Boxed<Formula>,
+) -> Result<Boxed<Formula>, AllocError>
     ensures { IfOk result (λ t. t ≡ formula.If at condition then other) }
 {
-    let condition = Boxed::new(alloc, condition)?;
-    let then = Boxed::new(alloc, then)?;
-    Ok(Formula::If(at, condition, then, Boxed::new(alloc, other)?))
+    Boxed::new(alloc, Formula::If(at, condition, then, other))
 }

@@ -7,7 +7,7 @@ use crate::Unread;
 use crate::grouping::{Part, grouped};
 use crate::names::{bound_names, names_to_bar};
 use crate::nodes::{
-    call_of, collected_of, comprehension_of, conditional_of, node, quantified_of, row_of,
+    call_of, collected_of, comprehension_of, conditional_of, leaf, node, quantified_of, row_of,
 };
 use crate::steps::{
     after_comma, behind, close_of, comma_at, is_minus, named, next, no_tree, opener_at, operator_at,
@@ -56,7 +56,7 @@ pub fn formula<'a>(
     lexemes: &'a [Lexeme],
     levels: &[u64],
     depth: usize,
-) -> Result<(Formula, &'a [Lexeme]), Unread>
+) -> Result<(Boxed<Formula>, &'a [Lexeme]), Unread>
     ensures { Reads (spec.piece depth levels.now) lexemes.now result }
 {
     let (first, rest) = operand(alloc, lexemes, depth)?;
@@ -97,7 +97,7 @@ fn list<'a>(
     lexemes: &'a [Lexeme],
     operator: Operator,
     depth: usize,
-) -> Result<(Formula, &'a [Lexeme]), Unread>
+) -> Result<(Boxed<Formula>, &'a [Lexeme]), Unread>
     ensures { Reads (spec.list depth operator) lexemes.now result }
 {
     let (first, rest) = formula(alloc, lexemes, &BRACKETED, depth)?;
@@ -121,7 +121,7 @@ fn links<'a>(
         all.push(Link {
             operator,
             at,
-            operand,
+            operand: operand.into_inner(),
         })?;
         rest = further;
     }
@@ -133,13 +133,13 @@ fn operand<'a>(
     alloc: Global,
     lexemes: &'a [Lexeme],
     depth: usize,
-) -> Result<(Formula, &'a [Lexeme]), Unread>
+) -> Result<(Boxed<Formula>, &'a [Lexeme]), Unread>
     ensures { Reads (spec.operand depth) lexemes.now result }
 {
     let (first, rest) = next(lexemes)?;
     if is_minus(&first.symbol) {
         let (tree, rest) = row(alloc, rest, depth)?;
-        Ok((Formula::Negative(first.at, Boxed::new(alloc, tree)?), rest))
+        Ok((Boxed::new(alloc, Formula::Negative(first.at, tree))?, rest))
     } else {
         row(alloc, lexemes, depth)
     }
@@ -150,7 +150,7 @@ fn row<'a>(
     alloc: Global,
     lexemes: &'a [Lexeme],
     depth: usize,
-) -> Result<(Formula, &'a [Lexeme]), Unread>
+) -> Result<(Boxed<Formula>, &'a [Lexeme]), Unread>
     ensures { Reads (spec.whole_row depth) lexemes.now result }
 {
     let (head, rest) = form(alloc, lexemes, depth)?;
@@ -191,7 +191,7 @@ fn after<'a>(
         Opener::Application => {
             let content = Content::List(Operator::Comma);
             let (argument, rest) = enclosed(alloc, lexemes, content, Mark::RoundClose, depth)?;
-            Ok((After::Apply(at, argument), rest))
+            Ok((After::Apply(at, argument.into_inner()), rest))
         }
         Opener::Image => {
             let (argument, rest) = enclosed(
@@ -201,7 +201,7 @@ fn after<'a>(
                 Mark::SquareClose,
                 depth,
             )?;
-            Ok((After::Image(at, argument), rest))
+            Ok((After::Image(at, argument.into_inner()), rest))
         }
     }
 }
@@ -211,19 +211,19 @@ fn form<'a>(
     alloc: Global,
     lexemes: &'a [Lexeme],
     depth: usize,
-) -> Result<(Formula, &'a [Lexeme]), Unread>
+) -> Result<(Boxed<Formula>, &'a [Lexeme]), Unread>
     ensures { Reads (spec.form depth) lexemes.now result }
 {
     let (first, rest) = next(lexemes)?;
     let at = first.at;
     match &first.symbol {
-        Symbol::Number(number) => Ok((Formula::Number(at, *number), rest)),
-        Symbol::Text(text) => Ok((
-            Formula::Text(at, Items::from_slice(alloc, text.as_slice())?),
-            rest,
-        )),
+        Symbol::Number(number) => leaf(alloc, Formula::Number(at, *number), rest),
+        Symbol::Text(text) => {
+            let text = Items::from_slice(alloc, text.as_slice())?;
+            leaf(alloc, Formula::Text(at, text), rest)
+        }
         Symbol::Name(name) => named(alloc, name, at, rest),
-        Symbol::Constant(constant) => Ok((Formula::Constant(at, *constant), rest)),
+        Symbol::Constant(constant) => leaf(alloc, Formula::Constant(at, *constant), rest),
         Symbol::Function(function) => call(alloc, rest, *function, at, depth),
         Symbol::Quantifier(quantifier) => quantified(alloc, rest, *quantifier, at, depth),
         Symbol::Collector(collector) => collected(alloc, rest, *collector, at, depth),
@@ -240,13 +240,13 @@ fn call<'a>(
     function: Function,
     at: Place,
     depth: usize,
-) -> Result<(Formula, &'a [Lexeme]), Unread>
+) -> Result<(Boxed<Formula>, &'a [Lexeme]), Unread>
     ensures { Reads (spec.call depth function at) lexemes.now result }
 {
     let rest = behind(lexemes, Mark::RoundOpen)?;
     let (arguments, rest) = listing(alloc, rest, Bracket::Round, depth)?;
     match call_of(at, function, arguments) {
-        Some(tree) => Ok((tree, rest)),
+        Some(tree) => leaf(alloc, tree, rest),
         None => Err(no_tree(rest)),
     }
 }
@@ -258,7 +258,7 @@ fn quantified<'a>(
     quantifier: Quantifier,
     at: Place,
     depth: usize,
-) -> Result<(Formula, &'a [Lexeme]), Unread>
+) -> Result<(Boxed<Formula>, &'a [Lexeme]), Unread>
     ensures { Reads (spec.quantified depth quantifier at) lexemes.now result }
 {
     let (names, rest) = bound_names(alloc, lexemes)?;
@@ -273,7 +273,7 @@ fn collected<'a>(
     collector: Collector,
     at: Place,
     depth: usize,
-) -> Result<(Formula, &'a [Lexeme]), Unread>
+) -> Result<(Boxed<Formula>, &'a [Lexeme]), Unread>
     ensures { Reads (spec.collected depth collector at) lexemes.now result }
 {
     let (names, rest) = bound_names(alloc, lexemes)?;
@@ -292,7 +292,7 @@ fn marked<'a>(
     mark: Mark,
     at: Place,
     depth: usize,
-) -> Result<(Formula, &'a [Lexeme]), Unread>
+) -> Result<(Boxed<Formula>, &'a [Lexeme]), Unread>
     ensures { Reads (spec.marked depth mark at) lexemes.now result }
 {
     match mark {
@@ -306,9 +306,9 @@ fn marked<'a>(
         Mark::CurlyOpen => curly(alloc, lexemes, at, depth),
         Mark::SquareOpen => {
             let (items, rest) = listing(alloc, lexemes, Bracket::Square, depth)?;
-            Ok((Formula::Sequence(at, items), rest))
+            leaf(alloc, Formula::Sequence(at, items), rest)
         }
-        Mark::Empty => Ok((Formula::Sequence(at, Items::new(alloc)), lexemes)),
+        Mark::Empty => leaf(alloc, Formula::Sequence(at, Items::new(alloc)), lexemes),
         Mark::If => conditional(alloc, lexemes, at, depth),
         _ => Err(no_tree(lexemes)),
     }
@@ -320,7 +320,7 @@ fn curly<'a>(
     lexemes: &'a [Lexeme],
     at: Place,
     depth: usize,
-) -> Result<(Formula, &'a [Lexeme]), Unread>
+) -> Result<(Boxed<Formula>, &'a [Lexeme]), Unread>
     ensures { Reads (spec.curly depth at) lexemes.now result }
 {
     match names_to_bar(alloc, lexemes) {
@@ -331,7 +331,7 @@ fn curly<'a>(
         Err(Unread::Memory) => Err(Unread::Memory),
         Err(Unread::NoTree(_)) => {
             let (items, rest) = listing(alloc, lexemes, Bracket::Curly, depth)?;
-            Ok((Formula::Set(at, items), rest))
+            leaf(alloc, Formula::Set(at, items), rest)
         }
     }
 }
@@ -342,7 +342,7 @@ fn conditional<'a>(
     lexemes: &'a [Lexeme],
     at: Place,
     depth: usize,
-) -> Result<(Formula, &'a [Lexeme]), Unread>
+) -> Result<(Boxed<Formula>, &'a [Lexeme]), Unread>
     ensures { Reads (spec.conditional depth at) lexemes.now result }
 {
     let (condition, rest) = enclosed(alloc, lexemes, Content::Part, Mark::Then, depth)?;
@@ -358,7 +358,7 @@ fn enclosed<'a>(
     content: Content,
     close: Mark,
     depth: usize,
-) -> Result<(Formula, &'a [Lexeme]), Unread>
+) -> Result<(Boxed<Formula>, &'a [Lexeme]), Unread>
     ensures { Reads (spec.enclosed depth content close) lexemes.now result }
 {
     let (tree, rest) = contents(alloc, lexemes, content, depth)?;
@@ -372,7 +372,7 @@ fn contents<'a>(
     lexemes: &'a [Lexeme],
     content: Content,
     depth: usize,
-) -> Result<(Formula, &'a [Lexeme]), Unread>
+) -> Result<(Boxed<Formula>, &'a [Lexeme]), Unread>
     ensures { Reads (spec.contents depth content) lexemes.now result }
 {
     if depth == 0 {
@@ -414,10 +414,10 @@ fn items<'a>(
 {
     let mut all = Items::new(alloc);
     let (first, mut rest) = contents(alloc, lexemes, Content::Inner, depth)?;
-    all.push(first)?;
+    all.push(first.into_inner())?;
     while let Some(after) = after_comma(rest) {
         let (item, further) = contents(alloc, after, Content::Inner, depth)?;
-        all.push(item)?;
+        all.push(item.into_inner())?;
         rest = further;
     }
     Ok((all, rest))

@@ -5,10 +5,11 @@ ghost use Rattle.b_grammar.specs.Descent as descent;
 ghost use Rattle.b_read_expr.specs.Reading as spec;
 
 use crate::Unread;
+use crate::nodes::leaf;
 use crate::reading::{Bracket, Opener};
 use b_ast::{Formula, Operator, Place};
 use b_grammar::{Lexeme, Mark, Symbol};
-use sqlite_items::Items;
+use sqlite_items::{Boxed, Items};
 use std::alloc::Global;
 
 /// Reading stopped before these lexemes.
@@ -229,12 +230,12 @@ pub fn named<'a>(
     name: &Items<u8>,
     at: Place,
     lexemes: &'a [Lexeme],
-) -> Result<(Formula, &'a [Lexeme]), Unread>
+) -> Result<(Boxed<Formula>, &'a [Lexeme]), Unread>
     ensures { spec.Reads (spec.named name.now at) lexemes.now result }
 {
     let name = Items::from_slice(alloc, name.as_slice())?;
     match behind(lexemes, Mark::Old) {
-        Ok(rest) => Ok((Formula::Old(at, name), rest)),
-        Err(_) => Ok((Formula::Name(at, name), lexemes)),
+        Ok(rest) => leaf(alloc, Formula::Old(at, name), rest),
+        Err(_) => leaf(alloc, Formula::Name(at, name), lexemes),
     }
 }

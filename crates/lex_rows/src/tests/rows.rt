@@ -1,6 +1,6 @@
 // The rows of the tables.
 use super::tables::{
-    BYTES, CHARACTERS, COMMENTS, NAMES, NUMBERS, PAIRS, SEPARATORS, STRINGS, WORDS,
+    BYTES, CHARACTERS, COMMENTS, FAULTS, NAMES, NUMBERS, PAIRS, SEPARATORS, STRINGS, TOKENS, WORDS,
 };
 use super::*;
 
@@ -48,7 +48,9 @@ fn expect_rows(rt: &impl Abort, alloc: Global, table: &str) -> Result<(), Fail> 
 
 #[test]
 fn rows(rt: HostRuntime) -> Result<(), Fail> {
-    for table in [SEPARATORS, COMMENTS, STRINGS, CHARACTERS, NUMBERS, NAMES] {
+    for table in [
+        TOKENS, FAULTS, SEPARATORS, COMMENTS, STRINGS, CHARACTERS, NUMBERS, NAMES,
+    ] {
         expect_rows(&rt, rt.alloc(), table)?;
     }
     Ok(())

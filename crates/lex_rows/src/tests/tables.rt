@@ -3,6 +3,56 @@
 // for each token a letter a byte, the first one great: N a name, D a number, T a string, W a reserved word, S a sign. Where
 // the text is refused stands `!` with the kind and the place.
 
+// Tokens of each kind beside one another.
+pub(super) const TOKENS: &str = r#"x $0`N.Ss
+x$0@0Dx`NSs.N
+12ab`DdNn
+a_1 0007`Nnn.Dddd
+170141183460469231731687303715884105727`Ddddddddddddddddddddddddddddddddddddddd
+a<=>b`NSssN
+<=a`SsN
++->>>`SsssS
+1..2`DSsD
+"a\"\\\n\tb"`Tttttttttttt
+"@E2@82@AC@F0@9F@98@80@09"x`TtttttttttN
+// "c`.....
+//`..
+/**/`....
+/* c */x`.......N
+/*/*/x`.....N
+/***/x`.....N
+x//@FF@0Dy@0Az`N......N
+x/*@80@0A*/y`N......N
+x/y`NSN"#;
+
+// Each fault at its place.
+pub(super) const FAULTS: &str = r#"/* a`!OpenComment 0
+x /*/`!OpenComment 2
+"a`!OpenString 0
+x "a@0Ab"`!OpenString 2
+"a\`!OpenString 0
+"a\@0A"`!OpenString 0
+170141183460469231731687303715884105728`!NumberTooWide 0
+1 999999999999999999999999999999999999999999`!NumberTooWide 2
+?`!BadByte 0
+x ? "`!BadByte 2
+"?" ?`!BadByte 4
+$`!BadByte 0
+$1`!BadByte 0
+_a`!BadByte 0
+a'b`!BadByte 1
+\x`!BadByte 0
+@80`!BadByte 0
+"\q"`!BadByte 2
+"\@E2"`!BadByte 2
+"a@FF`!BadByte 2
+"a@FF@0A`!BadByte 2
+"@E2@82`!BadByte 1
+"@E2@82"`!BadByte 1
+"@C0@80"`!BadByte 1
+"@ED@A0@80"`!BadByte 1
+"@F4@90@80@80"`!BadByte 1"#;
+
 // What separates, and what does not.
 pub(super) const SEPARATORS: &str = r#"`
  `.

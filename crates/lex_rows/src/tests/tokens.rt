@@ -1,10 +1,9 @@
-// Each kind of token, each fault, and what tokens stand for.
+// Each reserved word and each sign, and what tokens stand for.
 use b_lex::{
-    LexFault, LexKind, Token, TokenKind, is_left_out, lex, number_value, one_reading,
-    spelled_tokens, text_value, token_text,
+    Token, TokenKind, is_left_out, lex, number_value, one_reading, spelled_tokens, text_value,
+    token_text,
 };
 use std::alloc::Global;
-use std::process::Abort;
 use std::test::Fail;
 
 // The text has one token, of this kind, and nothing else.
@@ -71,133 +70,6 @@ fn signs(rt: HostRuntime) {
         count = count.saturating_add(1);
     }
     assert_eq!(rt; count, 64);
-}
-
-fn span(kind: TokenKind, from: u64, to: u64) -> Token {
-    Token { kind, from, to }
-}
-
-fn expect_tokens(rt: &impl Abort, alloc: Global, text: &[u8], wanted: &[Token]) {
-    let tokens = lex(alloc, text).expect(rt, "no tokens");
-    assert_eq!(rt; tokens.as_slice(), wanted);
-}
-
-#[test]
-fn rows(rt: HostRuntime) {
-    let alloc = rt.alloc();
-    let name = |from, to| span(TokenKind::Name, from, to);
-    let number = |from, to| span(TokenKind::Number, from, to);
-    let sign = |from, to| span(TokenKind::Sign, from, to);
-    let text = |from, to| span(TokenKind::Text, from, to);
-    expect_tokens(&rt, alloc, b"", &[]);
-    expect_tokens(&rt, alloc, b" \t\r\n", &[]);
-    expect_tokens(&rt, alloc, b"x $0", &[name(0, 1), sign(2, 4)]);
-    expect_tokens(&rt, alloc, b"x$0\rx", &[name(0, 1), sign(1, 3), name(4, 5)]);
-    expect_tokens(&rt, alloc, b"12ab", &[number(0, 2), name(2, 4)]);
-    expect_tokens(&rt, alloc, b"a_1 0007", &[name(0, 3), number(4, 8)]);
-    expect_tokens(
-        &rt,
-        alloc,
-        b"170141183460469231731687303715884105727",
-        &[number(0, 39)],
-    );
-    expect_tokens(&rt, alloc, b"a<=>b", &[name(0, 1), sign(1, 4), name(4, 5)]);
-    expect_tokens(&rt, alloc, b"<=a", &[sign(0, 2), name(2, 3)]);
-    expect_tokens(&rt, alloc, b"+->>>", &[sign(0, 4), sign(4, 5)]);
-    expect_tokens(
-        &rt,
-        alloc,
-        b"1..2",
-        &[number(0, 1), sign(1, 3), number(3, 4)],
-    );
-    expect_tokens(&rt, alloc, b"\"a\\\"\\\\\\n\\tb\"", &[text(0, 12)]);
-    expect_tokens(
-        &rt,
-        alloc,
-        b"\"\xE2\x82\xAC\xF0\x9F\x98\x80\t\"x",
-        &[text(0, 10), name(10, 11)],
-    );
-}
-
-#[test]
-fn comments(rt: HostRuntime) {
-    let alloc = rt.alloc();
-    let name = |from, to| span(TokenKind::Name, from, to);
-    expect_tokens(&rt, alloc, b"// \"c", &[]);
-    expect_tokens(&rt, alloc, b"//", &[]);
-    expect_tokens(&rt, alloc, b"/**/", &[]);
-    expect_tokens(&rt, alloc, b"/* c */x", &[name(7, 8)]);
-    expect_tokens(&rt, alloc, b"/*/*/x", &[name(5, 6)]);
-    expect_tokens(&rt, alloc, b"/***/x", &[name(5, 6)]);
-    expect_tokens(&rt, alloc, b"x//\xFF\ry\nz", &[name(0, 1), name(7, 8)]);
-    expect_tokens(&rt, alloc, b"x/*\x80\n*/y", &[name(0, 1), name(7, 8)]);
-    expect_tokens(
-        &rt,
-        alloc,
-        b"x/y",
-        &[name(0, 1), span(TokenKind::Sign, 1, 2), name(2, 3)],
-    );
-}
-
-// The text is refused so.
-fn expect_fault(rt: &impl Abort, alloc: Global, text: &[u8], kind: LexKind, at: u64) {
-    let wanted = LexFault::Refused { kind, at };
-    match lex(alloc, text) {
-        Ok(_) => panic!(rt; "not refused"),
-        Err(fault) => assert_eq!(rt; fault, wanted),
-    }
-}
-
-#[test]
-fn faults(rt: HostRuntime) {
-    let alloc = rt.alloc();
-    expect_fault(&rt, alloc, b"/* a", LexKind::OpenComment, 0);
-    expect_fault(&rt, alloc, b"x /*/", LexKind::OpenComment, 2);
-    expect_fault(&rt, alloc, b"\"a", LexKind::OpenString, 0);
-    expect_fault(&rt, alloc, b"x \"a\nb\"", LexKind::OpenString, 2);
-    expect_fault(&rt, alloc, b"\"a\\", LexKind::OpenString, 0);
-    expect_fault(&rt, alloc, b"\"a\\\n\"", LexKind::OpenString, 0);
-    expect_fault(
-        &rt,
-        alloc,
-        b"170141183460469231731687303715884105728",
-        LexKind::NumberTooWide,
-        0,
-    );
-    expect_fault(
-        &rt,
-        alloc,
-        b"1 999999999999999999999999999999999999999999",
-        LexKind::NumberTooWide,
-        2,
-    );
-}
-
-#[test]
-fn bad_bytes(rt: HostRuntime) {
-    let table: [(&[u8], u64); 18] = [
-        (b"?", 0),
-        (b"x ? \"", 2),
-        (b"\"?\" ?", 4),
-        (b"$", 0),
-        (b"$1", 0),
-        (b"_a", 0),
-        (b"a'b", 1),
-        (b"\\x", 0),
-        (b"\x80", 0),
-        (b"\"\\q\"", 2),
-        (b"\"\\\xE2\"", 2),
-        (b"\"a\xFF", 2),
-        (b"\"a\xFF\n", 2),
-        (b"\"\xE2\x82", 1),
-        (b"\"\xE2\x82\"", 1),
-        (b"\"\xC0\x80\"", 1),
-        (b"\"\xED\xA0\x80\"", 1),
-        (b"\"\xF4\x90\x80\x80\"", 1),
-    ];
-    for (text, at) in table {
-        expect_fault(&rt, rt.alloc(), text, LexKind::BadByte, at);
-    }
 }
 
 #[test]

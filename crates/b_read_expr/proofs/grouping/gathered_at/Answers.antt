@@ -1,4 +1,4 @@
-use Rattle.std.proofs.Common.{◌∙◌, Some, None, sym, ap}
+use Rattle.std.proofs.Common.{◌∙◌, Some, sym, ap}
 use Rattle.std.specs.Option.{option_map}
 use Rattle.b_grammar.specs.Descent as descent
 use Rattle.b_read_expr.specs.Grouping.{parts_of, lists}

@@ -1,4 +1,4 @@
-use Rattle.std.proofs.Common.{◌≡◌, ◌≢◌, ◌+◌, ◌-◌, ◌≤◌, ◌<◌, ◌∙◌, ◌++◌, ◌∷◌, [], List, Some, None, suc, true, false, refl, sym, ap, length, arith, eq-eqb}
+use Rattle.std.proofs.Common.{◌≡◌, ◌-◌, ◌∙◌, [], Some, None, suc, sym, arith}
 use Rattle.std.proofs.lemmas.Result.{err_from_is_err_and}
 use Rattle.b_ast.specs.declared.Operator.TheVariants as operator
 use Rattle.b_ast.specs.declared.Formula.TheVariants as formula
@@ -6,6 +6,7 @@ use Rattle.b_ast.specs.declared.After.TheVariants as after
 use Rattle.b_grammar.specs.declared.Mark.TheVariants as sign
 use Rattle.b_grammar.specs.declared.Symbol.TheVariants as symbol
 use Rattle.b_grammar.specs.Grammar as grammar
+use Rattle.b_grammar.specs.Descent.{done}
 use Rattle.b_read_expr.specs.declared.reading.Content.TheVariants as content
 use Rattle.b_read_expr.specs.declared.reading.Bracket.TheVariants as bracket
 use Rattle.b_read_expr.specs.Reading as spec
@@ -70,7 +71,7 @@ links-loop-at-init t c =
 
 pub links-loop-at-preserved : goal.links-loop-at-preserved
 links-loop-at-preserved t c =
-    rw c.in_ok-push.ensures.ok
+    rw (c.in_ok-push.ensures.ok, c.into_inner.ensures)
     (exits.links_go c.args.depth c.args.operator c.args.lexemes.now c.loop-at.all c.loop-at.rest.now (c.in-Some.at, c.in-Some.after) c.in-Some.ensures c.in_ok-operand.operand c.in_ok-operand.further.now c.loop-at.invariant c.in_ok-operand.ensures.0 c.in_ok-operand.ensures.1)
 
 pub links-returns-in_err-operand : goal.links-returns-in_err-operand
@@ -141,6 +142,7 @@ after-returns-in_err-argument-in-Application t c =
 
 pub after-returns-in_ok-argument-in-Application : goal.after-returns-in_ok-argument-in-Application
 after-returns-in_ok-argument-in-Application t c =
+    rw c.into_inner.ensures
     (exits.reads_made (after.Apply c.args.at) (spec.enclosed c.args.depth (content.List operator.Comma) sign.RoundClose) c.args.lexemes.now c.in_ok-argument-in-Application.argument c.in_ok-argument-in-Application.rest.now (spec.one_after c.args.depth c.args.opener c.args.at c.args.lexemes.now) (exits.application_is c.args.depth c.args.at c.args.lexemes.now c.args.opener c.in-Application.is) c.in_ok-argument-in-Application.ensures.0, c.in_ok-argument-in-Application.ensures.1)
 
 pub after-returns-in_err-argument-in-Image : goal.after-returns-in_err-argument-in-Image
@@ -150,6 +152,7 @@ after-returns-in_err-argument-in-Image t c =
 
 pub after-returns-in_ok-argument-in-Image : goal.after-returns-in_ok-argument-in-Image
 after-returns-in_ok-argument-in-Image t c =
+    rw c.into_inner-in-Image.ensures
     (exits.reads_made (after.Image c.args.at) (spec.enclosed c.args.depth content.Inner sign.SquareClose) c.args.lexemes.now c.in_ok-argument-in-Image.argument c.in_ok-argument-in-Image.rest.now (spec.one_after c.args.depth c.args.opener c.args.at c.args.lexemes.now) (exits.image_is c.args.depth c.args.at c.args.lexemes.now c.args.opener c.in-Image.is) c.in_ok-argument-in-Image.ensures.0, c.in_ok-argument-in-Image.ensures.1)
 
 pub form-returns-in_err-first : goal.form-returns-in_err-first
@@ -159,15 +162,15 @@ form-returns-in_err-first t c =
 
 pub form-returns-in-Number : goal.form-returns-in-Number
 form-returns-in-Number t c =
-    ((exits.form_law c.args.depth c.args.lexemes.now c.in_ok-first.first.now c.in_ok-first.rest.now (symbol.Number c.in-Number.number) c.in_ok-first.ensures c.in-Number.is), (let l = exits.longer c.args.lexemes.now c.in_ok-first.rest.now c.in_ok-first.first.now c.in_ok-first.ensures in omega arith))
+    exits.reads_on (spec.form c.args.depth) (done (formula.Number c.in_ok-first.first.now.at c.in-Number.number)) c.args.lexemes.now c.in_ok-first.rest.now c.leaf.result (exits.form_law c.args.depth c.args.lexemes.now c.in_ok-first.first.now c.in_ok-first.rest.now (symbol.Number c.in-Number.number) c.in_ok-first.ensures c.in-Number.is) (let l = exits.longer c.args.lexemes.now c.in_ok-first.rest.now c.in_ok-first.first.now c.in_ok-first.ensures in omega arith) c.leaf.ensures
 
 pub form-returns-in-Constant : goal.form-returns-in-Constant
 form-returns-in-Constant t c =
-    ((exits.form_law c.args.depth c.args.lexemes.now c.in_ok-first.first.now c.in_ok-first.rest.now (symbol.Constant c.in-Constant.constant) c.in_ok-first.ensures c.in-Constant.is), (let l = exits.longer c.args.lexemes.now c.in_ok-first.rest.now c.in_ok-first.first.now c.in_ok-first.ensures in omega arith))
+    exits.reads_on (spec.form c.args.depth) (done (formula.Constant c.in_ok-first.first.now.at c.in-Constant.constant)) c.args.lexemes.now c.in_ok-first.rest.now c.leaf-in-Constant.result (exits.form_law c.args.depth c.args.lexemes.now c.in_ok-first.first.now c.in_ok-first.rest.now (symbol.Constant c.in-Constant.constant) c.in_ok-first.ensures c.in-Constant.is) (let l = exits.longer c.args.lexemes.now c.in_ok-first.rest.now c.in_ok-first.first.now c.in_ok-first.ensures in omega arith) c.leaf-in-Constant.ensures
 
-pub form-returns-in_ok-from_slice-in-Text : goal.form-returns-in_ok-from_slice-in-Text
-form-returns-in_ok-from_slice-in-Text t c =
-    rw (c.in_ok-from_slice-in-Text.ensures, c.as_slice.ensures) ((exits.form_law c.args.depth c.args.lexemes.now c.in_ok-first.first.now c.in_ok-first.rest.now (symbol.Text c.in-Text.text) c.in_ok-first.ensures c.in-Text.is), (let l = exits.longer c.args.lexemes.now c.in_ok-first.rest.now c.in_ok-first.first.now c.in_ok-first.ensures in omega arith))
+pub form-returns-in_ok-text-in-Text : goal.form-returns-in_ok-text-in-Text
+form-returns-in_ok-text-in-Text t c =
+    exits.reads_on (spec.form c.args.depth) (done (formula.Text c.in_ok-first.first.now.at c.in-Text.text)) c.args.lexemes.now c.in_ok-first.rest.now c.leaf-in-Text.result (exits.form_law c.args.depth c.args.lexemes.now c.in_ok-first.first.now c.in_ok-first.rest.now (symbol.Text c.in-Text.text) c.in_ok-first.ensures c.in-Text.is) (let l = exits.longer c.args.lexemes.now c.in_ok-first.rest.now c.in_ok-first.first.now c.in_ok-first.ensures in omega arith) (rw (c.in_ok-text-in-Text.ensures, c.as_slice.ensures) at c.leaf-in-Text.ensures)
 
 pub form-returns-in-Name : goal.form-returns-in-Name
 form-returns-in-Name t c =
@@ -211,7 +214,7 @@ pub call-returns-in-Some : goal.call-returns-in-Some
 call-returns-in-Some t c =
     let l = c.in_ok-rest.ensures.1 in
     let m = c.in_ok-arguments.ensures.1 in
-    (exits.call_found c.args.depth c.args.function c.args.at c.args.lexemes.now c.in_ok-rest.rest.now c.in_ok-arguments.arguments c.in_ok-arguments.rest.now c.in_ok-rest.ensures.0 c.in_ok-arguments.ensures.0 c.in-Some.tree (sym c.in-Some.ensures), omega arith)
+    exits.reads_on (spec.call c.args.depth c.args.function c.args.at) (done c.in-Some.tree) c.args.lexemes.now c.in_ok-arguments.rest.now c.leaf.result (exits.call_found c.args.depth c.args.function c.args.at c.args.lexemes.now c.in_ok-rest.rest.now c.in_ok-arguments.arguments c.in_ok-arguments.rest.now c.in_ok-rest.ensures.0 c.in_ok-arguments.ensures.0 c.in-Some.tree (sym c.in-Some.ensures)) (omega arith) c.leaf.ensures
 
 pub call-returns-in-None : goal.call-returns-in-None
 call-returns-in-None t c =
@@ -276,11 +279,14 @@ marked-returns-in_err-items-in-SquareOpen t c =
 
 pub marked-returns-in_ok-items-in-SquareOpen : goal.marked-returns-in_ok-items-in-SquareOpen
 marked-returns-in_ok-items-in-SquareOpen t c =
-    (exits.reads_made (formula.Sequence c.args.at) (spec.listing c.args.depth bracket.Square) c.args.lexemes.now c.in_ok-items-in-SquareOpen.items c.in_ok-items-in-SquareOpen.rest.now (spec.marked c.args.depth c.args.mark c.args.at c.args.lexemes.now) (exits.marked_law c.args.depth c.args.mark sign.SquareOpen c.args.at c.args.lexemes.now c.in-SquareOpen.is) c.in_ok-items-in-SquareOpen.ensures.0, c.in_ok-items-in-SquareOpen.ensures.1)
+    let m = c.in_ok-items-in-SquareOpen.ensures.1 in
+    exits.reads_on (spec.marked c.args.depth c.args.mark c.args.at) (done (formula.Sequence c.args.at c.in_ok-items-in-SquareOpen.items)) c.args.lexemes.now c.in_ok-items-in-SquareOpen.rest.now c.leaf.result
+    (exits.reads_made (formula.Sequence c.args.at) (spec.listing c.args.depth bracket.Square) c.args.lexemes.now c.in_ok-items-in-SquareOpen.items c.in_ok-items-in-SquareOpen.rest.now (spec.marked c.args.depth c.args.mark c.args.at c.args.lexemes.now) (exits.marked_law c.args.depth c.args.mark sign.SquareOpen c.args.at c.args.lexemes.now c.in-SquareOpen.is) c.in_ok-items-in-SquareOpen.ensures.0) (omega arith) c.leaf.ensures
 
 pub marked-returns-in-Empty : goal.marked-returns-in-Empty
 marked-returns-in-Empty t c =
-    rw c.new.ensures ((exits.marked_law c.args.depth c.args.mark sign.Empty c.args.at c.args.lexemes.now c.in-Empty.is), omega arith)
+    exits.reads_on (spec.marked c.args.depth c.args.mark c.args.at) (done (formula.Sequence c.args.at [])) c.args.lexemes.now c.args.lexemes.now c.leaf-in-Empty.result
+    (exits.marked_law c.args.depth c.args.mark sign.Empty c.args.at c.args.lexemes.now c.in-Empty.is) (omega arith) (rw c.new.ensures at c.leaf-in-Empty.ensures)
 
 pub marked-returns-in_default : goal.marked-returns-in_default
 marked-returns-in_default t c =
@@ -305,7 +311,9 @@ curly-returns-in_err-items-in-Err-NoTree t c =
 
 pub curly-returns-in_ok-items-in-Err-NoTree : goal.curly-returns-in_ok-items-in-Err-NoTree
 curly-returns-in_ok-items-in-Err-NoTree t c =
-    (exits.reads_made (formula.Set c.args.at) (spec.listing c.args.depth bracket.Curly) c.args.lexemes.now c.in_ok-items-in-Err-NoTree.items c.in_ok-items-in-Err-NoTree.rest.now (spec.curly c.args.depth c.args.at c.args.lexemes.now) (laws.curly_items c.args.depth c.args.at c.args.lexemes.now (rw c.in-Err-NoTree.field-0-is at c.in-Err-NoTree.ensures)) c.in_ok-items-in-Err-NoTree.ensures.0, c.in_ok-items-in-Err-NoTree.ensures.1)
+    let m = c.in_ok-items-in-Err-NoTree.ensures.1 in
+    exits.reads_on (spec.curly c.args.depth c.args.at) (done (formula.Set c.args.at c.in_ok-items-in-Err-NoTree.items)) c.args.lexemes.now c.in_ok-items-in-Err-NoTree.rest.now c.leaf.result
+    (exits.reads_made (formula.Set c.args.at) (spec.listing c.args.depth bracket.Curly) c.args.lexemes.now c.in_ok-items-in-Err-NoTree.items c.in_ok-items-in-Err-NoTree.rest.now (spec.curly c.args.depth c.args.at c.args.lexemes.now) (laws.curly_items c.args.depth c.args.at c.args.lexemes.now (rw c.in-Err-NoTree.field-0-is at c.in-Err-NoTree.ensures)) c.in_ok-items-in-Err-NoTree.ensures.0) (omega arith) c.leaf.ensures
 
 pub conditional-returns-in_err-condition : goal.conditional-returns-in_err-condition
 conditional-returns-in_err-condition t c =
@@ -393,13 +401,13 @@ items-returns-in_err-first t c =
 
 pub items-loop-after-init : goal.items-loop-after-init
 items-loop-after-init t c =
-    rw (c.in_ok-push.ensures.ok, c.new-all.ensures) (exits.items_begin c.args.depth c.args.lexemes.now c.in_ok-first.first c.in_ok-first.rest.now c.in_ok-first.ensures.0 c.in_ok-first.ensures.1)
+    rw (c.in_ok-push.ensures.ok, c.new-all.ensures, c.into_inner.ensures) (exits.items_begin c.args.depth c.args.lexemes.now c.in_ok-first.first c.in_ok-first.rest.now c.in_ok-first.ensures.0 c.in_ok-first.ensures.1)
 
 pub items-loop-after-preserved : goal.items-loop-after-preserved
 items-loop-after-preserved t c =
     let l = c.in-Some.ensures.1 in
     let m = c.in_ok-item.ensures.1 in
-    rw c.in_ok-push-2.ensures.ok
+    rw (c.in_ok-push-2.ensures.ok, c.into_inner-in-Some.ensures)
     (exits.items_go c.args.depth c.args.lexemes.now c.loop-after.all c.loop-after.rest.now c.loop-after.invariant c.in-Some.after.now c.in-Some.ensures.0 c.in_ok-item.item c.in_ok-item.further.now c.in_ok-item.ensures.0 (omega arith))
 
 pub items-returns-in_err-item : goal.items-returns-in_err-item

@@ -1,4 +1,4 @@
-use Rattle.std.proofs.Common.{◌≡◌, ◌+◌, ◌*◌, ◌≤◌, length}
+use Rattle.std.proofs.Common.{◌+◌, ◌*◌, length}
 use Rattle.b_read_expr.proofs.Exits.{PartsRead, LinksRead, AftersRead, ItemsRead}
 use Rattle.b_read_expr.proofs.reading.+reading.Given as goal
 
