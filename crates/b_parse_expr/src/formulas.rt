@@ -2,13 +2,14 @@
 ghost use Rattle.std.specs.Prelude.{◌≡◌, ◌≤◌, length};
 ghost use Rattle.b_lex.specs.Reading.{AreSpans};
 ghost use Rattle.b_parse_expr.specs.Verdicts as spec;
+ghost use Rattle.b_summaries.specs.Made.{IsMade};
 
 use crate::texts::tree_of_text;
 use b_ast::FormulaText;
 use b_ast::machine::DefTable;
 use b_expand::{ParseFault, ParseKind, Unexpanded, Unfit};
 use b_lex::Token;
-use b_limits::expand;
+use b_summaries::{Definitions, definitions_of, expand};
 use std::alloc::Global;
 
 fn kind_of(why: Unfit) -> ParseKind
@@ -43,7 +44,28 @@ fn answer_of(answer: Result<FormulaText, Unexpanded>, end: u64) -> Result<Formul
     }
 }
 
-/// The formula of a text, with the definitions of the table expanded.
+/// The formula of a text, with definitions expanded that are indexed and summed up already.
+pub fn parse_formula_under(
+    alloc: Global,
+    text: &[u8],
+    tokens: &[Token],
+    defs: &Definitions<'_>,
+) -> Result<FormulaText, ParseFault>
+    requires spans { AreSpans 0 (length text.now) tokens.now }
+    requires made { IsMade defs.now }
+    ensures { spec.Parses text.now tokens.now defs.now.table.now.defs result }
+{
+    match tree_of_text(alloc, text, tokens) {
+        Ok(tree) => {
+            let answer = expand(alloc, defs, &tree);
+            answer_of(answer, text.len() as u64)
+        }
+        Err(fault) => Err(fault),
+    }
+}
+
+/// The formula of a text, with the definitions of the table expanded. A table that serves many formulas is best made to
+/// `Definitions` once.
 pub fn parse_formula(
     alloc: Global,
     text: &[u8],
@@ -53,11 +75,8 @@ pub fn parse_formula(
     requires { AreSpans 0 (length text.now) tokens.now }
     ensures { spec.Parses text.now tokens.now defs.now.defs result }
 {
-    match tree_of_text(alloc, text, tokens) {
-        Ok(tree) => {
-            let answer = expand(alloc, defs, &tree);
-            answer_of(answer, text.len() as u64)
-        }
-        Err(fault) => Err(fault),
+    match definitions_of(alloc, defs) {
+        Ok(made) => parse_formula_under(alloc, text, tokens, &made),
+        Err(_) => Err(ParseFault::Memory),
     }
 }

@@ -5,5 +5,5 @@ mod formulas;
 mod texts;
 
 pub use b_read_expr::{Unread, tree_of};
-pub use formulas::parse_formula;
+pub use formulas::{parse_formula, parse_formula_under};
 pub use texts::tree_of_text;

@@ -1,5 +1,5 @@
 -- What parts say together, and what they say under demands and shares.
-use Rattle.std.proofs.Common.{◌≡◌, ℕ, zero, suc, ◌+◌, ◌*◌, Bool, true, false, cond, List, [], ◌∷◌, ◌++◌, map, Option, Some, None, refl, sym, ap, ◌∙◌}
+use Rattle.std.proofs.Common.{◌≡◌, ℕ, ◌*◌, Bool, true, false, cond, List, [], ◌∷◌, ◌++◌, map, Option, Some, None, refl, sym, ap, ◌∙◌}
 use Rattle.std.specs.Prelude.{option_map, option_and_then, slice_get}
 use Rattle.std.proofs.Math.Nat.{zero-mul, mul-zero}
 use Rattle.b_ast.specs.declared.Sort.{Sort}
@@ -15,7 +15,7 @@ use Rattle.b_summaries.specs.declared.summary.Parts.{Parts}
 use Rattle.b_summaries.specs.declared.summary.Summary.{Summary}
 use Rattle.b_summaries.specs.Sizes.{counted, raised, nothing, plus, times, under, together, met, sized}
 use Rattle.b_summaries.specs.Values.{share_value, entry_value, entries_value, shares_value, kind_value, parts_value, facts_from, summary_value}
-use Rattle.b_summaries.specs.Making.{alone, join, demand, fitted, scaled_entry, scaled, lifted, lifted_all}
+use Rattle.b_summaries.specs.Making.{join, demand, fitted, scaled_entry, scaled, lifted, lifted_all}
 use Rattle.b_summaries.proofs.Sums.{size_by, under_plus, times_plus, times-twice, under-times, together_assoc, together_exchange, together_nothing, nothing_together}
 
 -- with nothing there is nothing

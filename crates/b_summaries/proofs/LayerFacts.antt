@@ -1,5 +1,5 @@
 -- What is known of each part of a layer: its sort, if it has one, its nodes and its depth.
-use Rattle.std.specs.Prelude.{ℕ, min, max, Bool}
+use Rattle.std.specs.Prelude.{ℕ, max, Bool}
 use Rattle.b_ast.specs.declared.Operator.{Operator}
 use Rattle.b_ast.specs.declared.Formula.{Formula, map-Formula}
 use Rattle.b_ast.specs.declared.Link.{Link}

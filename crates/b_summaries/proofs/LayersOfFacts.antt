@@ -2,18 +2,10 @@
 use Rattle.std.proofs.Common.{◌≡◌, ℕ, ◌+◌, Bool, List, [], ◌∷◌, map, sum, refl, sym, ap, ◌∙◌, arith}
 use Rattle.std.specs.Prelude.{min}
 use Rattle.std.proofs.lemmas.List.Sums.{sum_by-cons}
-use Rattle.b_ast.specs.declared.Place.{Place}
-use Rattle.b_ast.specs.declared.Bound.{Bound}
-use Rattle.b_ast.specs.declared.Constant.{Constant}
-use Rattle.b_ast.specs.declared.Function.{Function}
-use Rattle.b_ast.specs.declared.Quantifier.{Quantifier}
-use Rattle.b_ast.specs.declared.Collector.{Collector}
 use Rattle.b_ast.specs.declared.Operator.{Operator}
 use Rattle.b_ast.specs.declared.Formula.{Formula, roll-Formula, map-Formula, fold-roll-Formula}
-use Rattle.b_ast.specs.declared.Formula.TheVariants as formula
 use Rattle.b_ast.specs.declared.Link.{Link, roll-Link, map-Link, fold-roll-Link}
 use Rattle.b_ast.specs.declared.After.{After, roll-After, map-After, fold-roll-After}
-use Rattle.b_ast.specs.declared.After.TheVariants as after
 use Rattle.b_ast.specs.declared.After.TheOpen.{Formula-F, Link-F, After-F}
 use Rattle.b_ast.specs.Sorts as sorts
 use Rattle.b_ast.specs.Sorts.{Sorted, sort_of, link_of, after_of}

@@ -1,15 +1,15 @@
 -- Of two definitions of one name the first counts.
 use borrow.Author.Tests.{ltb-false, ltb-true}
-use Rattle.std.proofs.Common.{◌≡◌, ℕ, zero, suc, ◌+◌, ◌++◌, ◌<◌, ◌≤◌, ◌⊎◌, inl, inr, Bool, true, false, not, cond, List, [], ◌∷◌, take, length, get_or, map, fold, rules, Option, Some, None, refl, sym, ap, ◌∙◌, subst, arith}
+use Rattle.std.proofs.Common.{◌≡◌, ℕ, zero, suc, ◌+◌, ◌++◌, ◌<◌, ◌≤◌, ◌⊎◌, inl, inr, Bool, true, false, not, cond, List, [], ◌∷◌, take, length, get_or, fold, rules, Option, Some, None, refl, sym, ap, ◌∙◌, subst, arith}
 use Rattle.std.specs.Prelude.{IsSome, IfSome, IfOk, Result, slice_get, option_map, option_and_then, bytes_eq, position, nat_lt, min}
 use Rattle.std.specs.List.{position_or_len, prefix_len}
 use Rattle.b_ast.specs.declared.machine.Def.{Def}
-use Rattle.b_expand.specs.Expansion.{both, all_of}
+use Rattle.b_expand.specs.Expansion.{all_of}
 use Rattle.b_summaries.specs.declared.summary.Summary.{Summary}
 use Rattle.b_summaries.specs.declared.summary.Told.{Told}
 use Rattle.b_summaries.specs.Standing.{place_below, meaning_in, AreTold, used_at}
 use Rattle.b_summaries.specs.Making.{substituted}
-use Rattle.b_summaries.specs.Summaries.{Meaning, Meanings, Reading, Form, row_of, applied, plain_row, row, used, first_arguments, later_forms, first_of, with_definition, meaning_of, meanings, told_body, summary}
+use Rattle.b_summaries.specs.Summaries.{Meaning, Meanings, Reading, Form, row_of, applied, plain_row, row, first_arguments, later_forms, first_of, with_definition, meaning_of, meanings, told_body}
 
 -- what a name means stays
 keeps : (table : List Def) (m : Meanings) (ds : List Def) (x : List ℕ) (u : Meaning) → m x ≡ Some u → fold (with_definition table) m ds x ≡ Some u

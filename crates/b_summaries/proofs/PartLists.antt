@@ -8,11 +8,9 @@ use Rattle.b_summaries.specs.declared.summary.Asked.{Asked}
 use Rattle.b_summaries.specs.declared.summary.Share.{Share}
 use Rattle.b_summaries.specs.declared.summary.Entry.{Entry}
 use Rattle.b_summaries.specs.declared.summary.Parts.{Parts}
-use Rattle.b_summaries.specs.declared.summary.Summary.{Summary}
 use Rattle.b_summaries.specs.Sizes.{plus, times, together, under}
 use Rattle.b_summaries.specs.Values.{share_value, entries_value, kind_value, parts_value, facts_from}
 use Rattle.b_summaries.specs.declared.summary.Kind.TheVariants as kind
-use Rattle.b_summaries.specs.declared.summary.Facts.{Facts}
 use Rattle.b_summaries.specs.Making.{alone, join, place_size, demand, scaled_entry, scaled, lifted_all, more_share, added_share}
 
 -- parts with equal fields are equal

@@ -1,6 +1,6 @@
 -- The verdict on a tree from what is known of it.
 use Rattle.std.proofs.Common.{◌≡◌, ℕ, rules, Bool, true, false, cond, List, [], length, Option, Some, None, refl, sym, ap, ◌∙◌, subst, arith}
-use Rattle.std.specs.Prelude.{nat_lt, take, Result, Ok, Err, IfOk, IsSome, option_map, option_and_then}
+use Rattle.std.specs.Prelude.{nat_lt, take, Result, Ok, Err, IsSome, option_map, option_and_then}
 use Rattle.std.proofs.lemmas.Bool.Decides.{nat_tests}
 use Rattle.b_ast.specs.declared.Sort.{Sort}
 use Rattle.b_ast.specs.declared.machine.Def.{Def}
@@ -13,14 +13,13 @@ use Rattle.b_expand.specs.Answers.{Answers, judged, sorted_text, text_of}
 use Rattle.b_expand.specs.declared.faults.Unfit.{Unfit}
 use Rattle.b_expand.specs.declared.faults.Unfit.TheVariants.{TooDeep, TooWide}
 use Rattle.b_expand.specs.declared.faults.Unexpanded.{Unexpanded}
-use Rattle.b_expand.specs.declared.faults.Unexpanded.TheVariants.{Refused, Memory}
 use Rattle.b_summaries.specs.declared.summary.Facts.{Facts}
 use Rattle.b_summaries.specs.declared.summary.Summary.{Summary}
 use Rattle.b_summaries.specs.declared.summary.Told.{Told}
 use Rattle.b_summaries.specs.Sizes.{counted, size_of, known}
 use Rattle.b_summaries.specs.Values.{facts_from, summary_value}
 use Rattle.b_summaries.specs.Summaries.{summary, meanings}
-use Rattle.b_summaries.specs.Standing.{verdict_of, text_by, judged_by, IsRefusal}
+use Rattle.b_summaries.specs.Standing.{verdict_of, text_by, judged_by}
 use Rattle.b_summaries.proofs.Naming.{take_all}
 use Rattle.b_summaries.proofs.Telling.{formula_says}
 

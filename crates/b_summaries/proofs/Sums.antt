@@ -1,10 +1,8 @@
 -- Sizes of parts together.
-use Rattle.std.proofs.Common.{◌≡◌, ℕ, ◌+◌, ◌*◌, Bool, true, false, cond, Option, Some, None, refl, sym, ap, ◌∙◌, arith}
-use Rattle.std.specs.Prelude.{max, min}
-use Rattle.b_expand.specs.Places.{brackets}
+use Rattle.std.proofs.Common.{◌≡◌, ℕ, ◌+◌, ◌*◌, Option, Some, None, refl, sym, ap, ◌∙◌, arith}
 use Rattle.b_summaries.specs.declared.summary.Size.{Size}
 use Rattle.b_summaries.specs.Sizes.{counted, deeper_of, raised, nothing, plus, times, under, together}
-use Rattle.b_summaries.proofs.Amounts.{times-sum, sum-times, times-times, times-limited}
+use Rattle.b_summaries.proofs.Amounts.{times-sum, sum-times, times-times}
 
 -- sizes with equal parts are equal
 pub size_by : (m n : ℕ) (d e : Option ℕ) → m ≡ n → d ≡ e → ◌≡◌ {A = Size} (record { nodes = m; depth = d }) (record { nodes = n; depth = e })

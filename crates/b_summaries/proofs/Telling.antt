@@ -1,7 +1,7 @@
 -- The law of summaries: what a summary says of a text, in each scope whose trees are known, is what is known of the expanded tree.
 use Rattle.std.proofs.Common.{◌≡◌, ℕ, ◌==◌, Bool, true, false, cond, List, [], ◌∷◌, map, length, fold, Option, Some, None, refl, sym, ap, subst, ◌∙◌}
 use Rattle.std.specs.Prelude.{option_map, option_and_then, bytes_eq}
-use Rattle.std.specs.List.{AllByRecursion, list_all}
+use Rattle.std.specs.List.{AllByRecursion}
 use Rattle.std.proofs.lemmas.Bool.{eqb-true}
 use Rattle.b_ast.specs.declared.Place.{Place}
 use Rattle.b_ast.specs.declared.Bound.{Bound}
@@ -25,7 +25,7 @@ use Rattle.b_summaries.specs.declared.summary.Size.{Size}
 use Rattle.b_summaries.specs.declared.summary.Facts.{Facts}
 use Rattle.b_summaries.specs.declared.summary.Parts.{Parts}
 use Rattle.b_summaries.specs.declared.summary.Summary.{Summary}
-use Rattle.b_summaries.specs.Sizes.{asking, met, size_of, facts_of, known}
+use Rattle.b_summaries.specs.Sizes.{asking, size_of, facts_of, known}
 use Rattle.b_summaries.specs.Values.{facts_from, summary_value, told_value}
 use Rattle.b_summaries.specs.Making.{place_size, told_of}
 use Rattle.b_summaries.specs.Summaries as summed
@@ -33,9 +33,9 @@ use Rattle.b_summaries.specs.Summaries.{with_place, with_part, with_all, formed,
 use Rattle.b_summaries.proofs.Using.{asked_facts, told_of_value}
 use Rattle.b_summaries.proofs.Trees.{met_asking, adding, placing, adds}
 use Rattle.b_summaries.proofs.TreeLayers.{facts-Number, facts-Text, facts-Old, facts-Constant, known-Negative, known-Comprehension, known-Quantified, known-Collected, known-If, known-Call, known-Set, known-Sequence}
-use Rattle.b_summaries.proofs.TreeRows.{link_at, add_link, add_form, side_added, converse_added, apply_added, image_added}
+use Rattle.b_summaries.proofs.TreeRows.{add_form, side_added, converse_added, apply_added, image_added}
 use Rattle.b_summaries.proofs.DeeperFacts.{names_brackets}
-use Rattle.b_summaries.proofs.TextParts.{Pairwise, Beside, pairs_of, valued, at_parts, Says, IsReading, IsForm, IsSide, part_value, place_value, formed_value, all_value, chain_says, arguments_say}
+use Rattle.b_summaries.proofs.TextParts.{Beside, pairs_of, valued, at_parts, Says, IsReading, IsForm, IsSide, part_value, place_value, formed_value, all_value, chain_says, arguments_say}
 use Rattle.b_summaries.proofs.TextNames.{IsMeaning, Agree, by_sort, as_many, named_says, called_says, called_row}
 
 module _ (table : List Def) (means : tree.Meanings) (others : summed.Meanings) (agree : Agree means others)

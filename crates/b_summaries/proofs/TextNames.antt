@@ -1,12 +1,10 @@
 -- What is said of names and of uses of definitions.
-use Rattle.std.proofs.Common.{◌≡◌, ℕ, zero, suc, ◌+◌, ◌*◌, ◌<◌, ◌≤◌, ◌==◌, Bool, true, false, cond, List, [], ◌∷◌, map, length, Option, Some, None, refl, sym, ap, subst, ◌∙◌, arith}
-use Rattle.std.specs.Prelude.{option_map, option_and_then, is_some, slice_get, position, bytes_eq, min, nat_lt, IfSome}
+use Rattle.std.proofs.Common.{◌≡◌, ℕ, zero, suc, ◌+◌, ◌*◌, ◌<◌, ◌==◌, Bool, true, false, cond, List, [], ◌∷◌, map, length, Option, Some, None, refl, sym, ap, subst, ◌∙◌, arith}
+use Rattle.std.specs.Prelude.{option_map, option_and_then, is_some, slice_get, position, bytes_eq, nat_lt, IfSome}
 use Rattle.std.proofs.Math.Nat.{one-mul}
 use Rattle.std.specs.List.{position_or_len}
 use Rattle.std.proofs.lemmas.Bool.{ltb-true}
 use Rattle.b_ast.specs.declared.Place.{Place}
-use Rattle.b_ast.specs.declared.Sort.{Sort}
-use Rattle.b_ast.specs.declared.Sort.TheVariants as sort
 use Rattle.b_ast.specs.declared.Formula.{Formula}
 use Rattle.b_ast.specs.declared.Formula.TheVariants as formula
 use Rattle.b_ast.specs.declared.After.{After}
@@ -18,9 +16,9 @@ use Rattle.b_summaries.specs.declared.summary.Size.{Size}
 use Rattle.b_summaries.specs.declared.summary.Facts.{Facts}
 use Rattle.b_summaries.specs.declared.summary.Summary.{Summary}
 use Rattle.b_summaries.specs.declared.summary.Told.{Told}
-use Rattle.b_summaries.specs.Sizes.{counted, deeper_of, raised, nothing, plus, times, size_of, facts_of, known}
+use Rattle.b_summaries.specs.Sizes.{counted, raised, nothing, plus, times, size_of, facts_of, known}
 use Rattle.b_summaries.specs.Values.{facts_from, summary_value, told_value}
-use Rattle.b_summaries.specs.Making.{place_size, substituted}
+use Rattle.b_summaries.specs.Making.{substituted}
 use Rattle.b_summaries.specs.Summaries as summed
 use Rattle.b_summaries.specs.Summaries.{leaf, parameter, place_of}
 use Rattle.b_summaries.proofs.Sums.{size_by, deeper_none}

@@ -1,30 +1,27 @@
 -- What is said of a text at its parts: that a reading by summaries says what is known of the trees.
-use Rattle.std.proofs.Common.{◌≡◌, ℕ, ◌+◌, Bool, true, false, cond, List, [], ◌∷◌, map, Option, Some, None, refl, sym, ap, subst, ◌∙◌, arith}
-use Rattle.std.specs.Prelude.{option_map, option_and_then, is_some, max, ◌&&◌}
+use Rattle.std.proofs.Common.{◌≡◌, ℕ, Bool, true, false, cond, List, [], ◌∷◌, map, Option, Some, None, refl, sym, ap, subst, ◌∙◌}
+use Rattle.std.specs.Prelude.{option_map, option_and_then, ◌&&◌}
 use Rattle.std.specs.List.{AllByRecursion, list_all}
 use Rattle.b_ast.specs.declared.Place.{Place}
-use Rattle.b_ast.specs.declared.Bound.{Bound}
 use Rattle.b_ast.specs.declared.Sort.{Sort}
 use Rattle.b_ast.specs.declared.Sort.TheVariants as sort
-use Rattle.b_ast.specs.declared.Operator.{Operator}
 use Rattle.b_ast.specs.declared.Formula.{Formula}
 use Rattle.b_ast.specs.declared.Formula.TheVariants as formula
 use Rattle.b_ast.specs.declared.Link.{Link}
-use Rattle.b_ast.specs.declared.After.{After}
 use Rattle.b_ast.specs.Sorts.{operand_sort, chain_sort}
-use Rattle.b_expand.specs.Places.{brackets, deeper_place}
+use Rattle.b_expand.specs.Places.{brackets}
 use Rattle.b_expand.specs.Expansion as tree
 use Rattle.b_expand.specs.Expansion.{both, all_of}
 use Rattle.b_summaries.specs.declared.summary.Size.{Size}
 use Rattle.b_summaries.specs.declared.summary.Facts.{Facts}
 use Rattle.b_summaries.specs.declared.summary.Parts.{Parts}
 use Rattle.b_summaries.specs.declared.summary.Summary.{Summary}
-use Rattle.b_summaries.specs.Sizes.{counted, plus, together, asking, sized, known}
-use Rattle.b_summaries.specs.Values.{parts_value, kind_value, facts_from, summary_value}
-use Rattle.b_summaries.specs.Making.{alone, join, place_size, fit}
+use Rattle.b_summaries.specs.Sizes.{together, asking, sized, known}
+use Rattle.b_summaries.specs.Values.{parts_value, facts_from, summary_value}
+use Rattle.b_summaries.specs.Making.{alone, place_size, fit}
 use Rattle.b_summaries.specs.Summaries as summed
 use Rattle.b_summaries.specs.Summaries.{with_place, with_part, with_all, formed, node, start, leaf}
-use Rattle.b_summaries.proofs.Adding.{both_none, value_of, joined_value, fitted_value}
+use Rattle.b_summaries.proofs.Adding.{value_of, joined_value, fitted_value}
 use Rattle.b_summaries.proofs.Trees.{adding, placing, adds}
 use Rattle.b_summaries.proofs.TreeRows.{add_link, add_form, link_at, no_links, known-Chain, known-Row}
 

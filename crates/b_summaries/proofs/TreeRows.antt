@@ -1,27 +1,24 @@
 -- What is known of chains and of rows of forms.
-use Rattle.std.proofs.Common.{◌≡◌, ℕ, ◌+◌, Bool, true, false, cond, List, [], ◌∷◌, map, sum, Option, Some, None, refl, sym, ap, ◌∙◌, arith}
+use Rattle.std.proofs.Common.{◌≡◌, ℕ, ◌+◌, Bool, true, List, [], ◌∷◌, map, sum, Option, Some, None, refl, sym, ap, ◌∙◌, arith}
 use Rattle.std.specs.Prelude.{option_map, option_and_then, max, ◌&&◌}
 use Rattle.b_ast.specs.declared.Place.{Place}
-use Rattle.b_ast.specs.declared.Sort.{Sort}
 use Rattle.b_ast.specs.declared.Sort.TheVariants as sort
 use Rattle.b_ast.specs.declared.Operator.{Operator}
-use Rattle.b_ast.specs.declared.Formula.{Formula, roll-Formula}
+use Rattle.b_ast.specs.declared.Formula.{Formula}
 use Rattle.b_ast.specs.declared.Formula.TheVariants as formula
 use Rattle.b_ast.specs.declared.Link.{Link, roll-Link, fold-roll-Link}
 use Rattle.b_ast.specs.declared.After.{After, roll-After, map-After, fold-roll-After}
 use Rattle.b_ast.specs.declared.After.TheVariants as after
-use Rattle.b_ast.specs.declared.After.TheOpen.{Formula-F, Link-F, After-F}
+use Rattle.b_ast.specs.declared.After.TheOpen.{Formula-F, After-F}
 use Rattle.b_ast.specs.Sorts as sorts
 use Rattle.b_ast.specs.Sorts.{Sorted, sort_of, link_of, after_of, fits, link_fits, links_fit, all_true, operand_sort, chain_sort}
 use Rattle.b_expand.specs.Places.{node_total, nodes_of_link, nodes_of_after, deepest, depth_of_link, depth_of_after, after_nodes, formula_nodes, link_nodes, after_depth, formula_depth, link_depth, greatest}
 use Rattle.b_expand.specs.Expansion.{both, all_of}
 use Rattle.b_summaries.specs.declared.summary.Size.{Size}
-use Rattle.b_summaries.specs.declared.summary.Facts.{Facts}
 use Rattle.b_summaries.specs.Sizes.{counted, plus, together, size_of, facts_of, known}
 use Rattle.b_summaries.specs.Values.{facts_from}
 use Rattle.b_summaries.specs.Summaries.{node}
 use Rattle.b_summaries.proofs.Sums.{size_by}
-use Rattle.b_summaries.proofs.Adding.{both_none}
 use Rattle.b_summaries.proofs.Trees.{given_facts, given_size, given_map, given_formed, two_tests, adding, placing, adding_tree, adding_none, place_tree, adds, every, sizes, none_added, all_added, sizes_sum, links_every, true_every}
 use Rattle.b_summaries.proofs.TreeLayers.{facts_layer}
 

@@ -6,12 +6,12 @@ use Rattle.b_ast.specs.declared.Sort.{Sort}
 use Rattle.b_ast.specs.declared.Sort.TheVariants as sort
 use Rattle.b_ast.specs.declared.Operator.{Operator}
 use Rattle.b_ast.specs.declared.Formula.{Formula}
-use Rattle.b_ast.specs.Sorts.{Sorted, sort_of, fits, given, all_fit, operand_sort, link_fits, links_fit, all_true}
+use Rattle.b_ast.specs.Sorts.{Sorted, sort_of, fits, given, all_fit, link_fits, links_fit, all_true}
 use Rattle.b_expand.specs.Places.{node_total, deepest, greatest}
 use Rattle.b_expand.specs.Expansion.{both, all_of}
 use Rattle.b_summaries.specs.declared.summary.Size.{Size}
 use Rattle.b_summaries.specs.declared.summary.Facts.{Facts}
-use Rattle.b_summaries.specs.Sizes.{counted, deeper_of, nothing, plus, together, asking, met, sized, size_of, facts_of, known}
+use Rattle.b_summaries.specs.Sizes.{counted, plus, together, asking, met, sized, size_of, facts_of, known}
 use Rattle.b_summaries.specs.Values.{facts_from}
 use Rattle.b_summaries.proofs.Sums.{size_by, together_assoc}
 use Rattle.b_summaries.proofs.Adding.{both_none}

@@ -1,5 +1,5 @@
 -- What a use of a definition says, and what a definition says of its body.
-use Rattle.std.proofs.Common.{◌≡◌, ℕ, zero, suc, ◌+◌, ◌*◌, Bool, true, false, cond, List, [], ◌∷◌, map, length, Option, Some, None, refl, sym, ap, subst, ◌∙◌, arith}
+use Rattle.std.proofs.Common.{◌≡◌, ℕ, zero, suc, Bool, true, false, cond, List, [], ◌∷◌, map, length, Option, Some, None, refl, sym, ap, subst, ◌∙◌, arith}
 use Rattle.std.specs.Prelude.{option_map, option_and_then, slice_get, ◌==◌, ◌&&◌, ◌||◌}
 use Rattle.std.proofs.Math.Nat.{zero-mul}
 use Rattle.std.proofs.Math.Dec.{eqb-suc-zero, eqb-zero-suc, eqb-suc-suc}
@@ -18,11 +18,11 @@ use Rattle.b_summaries.specs.declared.summary.Kind.TheVariants as kind
 use Rattle.b_summaries.specs.declared.summary.Parts.{Parts}
 use Rattle.b_summaries.specs.declared.summary.Summary.{Summary}
 use Rattle.b_summaries.specs.declared.summary.Told.{Told}
-use Rattle.b_summaries.specs.Sizes.{counted, raised, nothing, plus, times, under, together, met, sized, both_asked, nothing_asked}
+use Rattle.b_summaries.specs.Sizes.{counted, raised, nothing, plus, times, under, together, met, sized, both_asked}
 use Rattle.b_summaries.specs.Values.{share_value, entry_value, entries_value, shares_value, kind_value, parts_value, facts_from, summary_value, told_value}
-use Rattle.b_summaries.specs.Making.{alone, join, fitted, lifted_all, kind_in, body_size, use_summary, substituted, no_share, no_shares, more_share, added_share, gathered, told_parts, told_of}
-use Rattle.b_summaries.proofs.Sums.{size_by, plus-times, together_assoc, together_comm, together_nothing, nothing_together}
-use Rattle.b_summaries.proofs.Adding.{both_none, value_of, entries_nothing, join_value, joined_value, fitted_value, lifted_all_value}
+use Rattle.b_summaries.specs.Making.{alone, fitted, lifted_all, kind_in, body_size, use_summary, substituted, no_share, no_shares, more_share, added_share, gathered, told_parts, told_of}
+use Rattle.b_summaries.proofs.Sums.{size_by, plus-times, together_assoc, together_comm, nothing_together}
+use Rattle.b_summaries.proofs.Adding.{both_none, value_of, entries_nothing, fitted_value, lifted_all_value}
 
 -- ---- uses
 

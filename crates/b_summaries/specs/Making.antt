@@ -1,6 +1,5 @@
 -- Summaries from summaries.
 use Rattle.std.specs.Prelude.{ℕ, zero, suc, ◌*◌, ◌+◌, if◌then◌else◌, List, [], ◌∷◌, ◌++◌, map, slice_get, Option, Some, None, option_map, option_and_then}
-use Rattle.b_ast.specs.declared.Sort.{Sort}
 use Rattle.b_expand.specs.Places.{brackets}
 use Rattle.b_expand.specs.Expansion.{both}
 use Rattle.b_summaries.specs.declared.summary.Size.{Size}
@@ -12,7 +11,7 @@ use Rattle.b_summaries.specs.declared.summary.Kind.TheVariants as kind
 use Rattle.b_summaries.specs.declared.summary.Parts.{Parts}
 use Rattle.b_summaries.specs.declared.summary.Summary.{Summary}
 use Rattle.b_summaries.specs.declared.summary.Told.{Told}
-use Rattle.b_summaries.specs.Sizes.{counted, deeper_of, raised, nothing, plus, times, nothing_asked, both_asked, met}
+use Rattle.b_summaries.specs.Sizes.{counted, deeper_of, raised, plus, times, nothing_asked, both_asked, met}
 
 -- parts that no argument adds to
 abbrev pub alone : Size → Parts

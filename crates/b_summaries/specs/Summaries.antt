@@ -1,7 +1,6 @@
 -- The summary of a body, by its parameters and what names mean.
 use Rattle.std.specs.Prelude.{ℕ, ◌==◌, length, Bool, ◌&&◌, not, if◌then◌else◌, List, [], ◌∷◌, map, fold, position, bytes_eq, Option, Some, None, is_some, option_map, option_and_then}
 use Rattle.std.specs.List.{list_all}
-use Rattle.b_ast.specs.declared.Place.{Place}
 use Rattle.b_ast.specs.declared.Bound.{Bound}
 use Rattle.b_ast.specs.declared.Sort.{Sort}
 use Rattle.b_ast.specs.declared.Sort.TheVariants as sort
@@ -17,7 +16,6 @@ use Rattle.b_ast.specs.Sorts.{operand_sort, chain_sort, argument_sort, call_sort
 use Rattle.b_expand.specs.Places.{names_depth, brackets}
 use Rattle.b_expand.specs.Expansion.{both, all_of, expanded_operator, is_comma}
 use Rattle.b_summaries.specs.declared.summary.Size.{Size}
-use Rattle.b_summaries.specs.declared.summary.Asked.{Asked}
 use Rattle.b_summaries.specs.declared.summary.Kind.TheVariants as kind
 use Rattle.b_summaries.specs.declared.summary.Parts.{Parts}
 use Rattle.b_summaries.specs.declared.summary.Summary.{Summary}

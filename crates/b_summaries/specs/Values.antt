@@ -11,7 +11,7 @@ use Rattle.b_summaries.specs.declared.summary.Kind.TheVariants as kind
 use Rattle.b_summaries.specs.declared.summary.Parts.{Parts}
 use Rattle.b_summaries.specs.declared.summary.Summary.{Summary}
 use Rattle.b_summaries.specs.declared.summary.Told.{Told}
-use Rattle.b_summaries.specs.Sizes.{nothing, plus, times, under, together, met}
+use Rattle.b_summaries.specs.Sizes.{nothing, times, under, together, met}
 
 -- what an argument adds, if it is what is asked for
 abbrev pub share_value : Share → Facts → Option Size

@@ -1,20 +1,8 @@
-use Rattle.std.proofs.Common.{length, false}
-use Rattle.b_grammar.specs.Symbols.{lexemes}
-use Rattle.b_parse_expr.proofs.Judging.{gives_fault, gives_answer}
+use Rattle.std.proofs.Common.{subst}
+use Rattle.b_ast.specs.declared.machine.DefTable.{DefTable}
+use Rattle.b_parse_expr.specs.Verdicts.{Parses}
 use Rattle.b_parse_expr.proofs.formulas.parse_formula.Goals as goal
 
+-- the definitions are those of the table
 pub returns-in-Ok : goal.returns-in-Ok
-returns-in-Ok c =
-    gives_answer
-    (lexemes false c.args.text.now c.args.tokens.now)
-    c.args.defs.now.defs
-    (length c.args.text.now)
-    c.in-Ok.tree
-    c.in-Ok.ensures
-    c.expand-answer.result
-    c.expand-answer.ensures
-    c.answer_of.result
-    c.answer_of.ensures
-
-pub returns-in-Err : goal.returns-in-Err
-returns-in-Err c = gives_fault (lexemes false c.args.text.now c.args.tokens.now) c.args.defs.now.defs (length c.args.text.now) c.in-Err.fault c.in-Err.ensures
+returns-in-Ok c = subst (λ (t : DefTable). Parses c.args.text.now c.args.tokens.now t.defs c.parse_formula_under.result) c.in-Ok.ensures.table c.parse_formula_under.ensures

@@ -1,5 +1,4 @@
-use Rattle.std.proofs.Common.{◌≡◌, ℕ, List, length, Option, ap}
-use Rattle.std.specs.Prelude.{IfSome, option_and_then, take}
+use Rattle.std.proofs.Common.{length}
 use Rattle.b_summaries.proofs.Naming.{means_where, meant_where, all_below, all_within}
 use Rattle.b_summaries.proofs.texts.meaning_of.Goals as goal
 

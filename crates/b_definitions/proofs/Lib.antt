@@ -1,0 +1,3 @@
+-- Lemmas of tables in the order of use.
+pub mod Joining
+pub mod Stability

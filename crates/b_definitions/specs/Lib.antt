@@ -1,0 +1,4 @@
+pub mod Uses
+pub mod Tables
+pub mod Ranks
+pub mod Arranging

@@ -1,0 +1,87 @@
+-- Which definitions of a table a body uses, and circles of uses.
+use Rattle.std.specs.Prelude.{ℕ, ◌==◌, Bool, false, ◌&&◌, if◌then◌else◌, List, [], ◌∷◌, ◌++◌, map, position, bytes_eq, slice_get, Option, Some, None, is_some, unwrap_or}
+use Rattle.std.specs.List.{list_any}
+use Rattle.b_ast.specs.declared.machine.Def.{Def}
+use Rattle.b_ast.specs.declared.machine.DefBody.{DefBody}
+use Rattle.b_ast.specs.declared.machine.DefBody.TheVariants as body
+use Rattle.b_ast.specs.declared.Formula.{Formula, fold-Formula}
+use Rattle.b_ast.specs.declared.Link.{Link, fold-Link}
+use Rattle.b_ast.specs.declared.After.{After, fold-After}
+use Rattle.b_ast.specs.declared.After.TheOpen.{Formula-F, Link-F, After-F}
+use Rattle.b_names.specs.Index.{place_of}
+
+-- one list after the other
+abbrev pub joined : List (List ℕ) → List ℕ
+joined [] = []
+joined (xs ∷ xss) = xs ++ joined xss
+
+abbrev pub listed : Option ℕ → List ℕ
+listed None = []
+listed (Some i) = i ∷ []
+
+-- the definition that a name means, where it is no parameter
+abbrev pub meant : List Def → List (List ℕ) → List ℕ → Option ℕ
+meant table ps x = if is_some (position (bytes_eq x) ps) then None else place_of table x
+
+abbrev pub after_step : After-F (List ℕ) (List ℕ) (List ℕ) → List ℕ
+after_step (After-F.Converse at) = []
+after_step (After-F.Apply at xs) = xs
+after_step (After-F.Image at xs) = xs
+
+abbrev pub link_step : Link-F (List ℕ) (List ℕ) (List ℕ) → List ℕ
+link_step l = l.operand
+
+abbrev pub formula_step : List Def → List (List ℕ) → Formula-F (List ℕ) (List ℕ) (List ℕ) → List ℕ
+formula_step table ps (Formula-F.Number at n) = []
+formula_step table ps (Formula-F.Text at x) = []
+formula_step table ps (Formula-F.Name at x) = listed (meant table ps x)
+formula_step table ps (Formula-F.Old at x) = []
+formula_step table ps (Formula-F.Constant at c) = []
+formula_step table ps (Formula-F.Negative at xs) = xs
+formula_step table ps (Formula-F.Chain xs xss) = xs ++ joined xss
+formula_step table ps (Formula-F.Row xs xss) = xs ++ joined xss
+formula_step table ps (Formula-F.Call at f xss) = joined xss
+formula_step table ps (Formula-F.Set at xss) = joined xss
+formula_step table ps (Formula-F.Sequence at xss) = joined xss
+formula_step table ps (Formula-F.Comprehension at ns xs) = xs
+formula_step table ps (Formula-F.Quantified at q ns xs) = xs
+formula_step table ps (Formula-F.Collected at c ns xs ys) = xs ++ ys
+formula_step table ps (Formula-F.If at xs ys zs) = xs ++ (ys ++ zs)
+
+-- the places of the definitions whose names stand in a tree, in order
+abbrev pub used_in : List Def → List (List ℕ) → Formula → List ℕ
+used_in table ps = fold-Formula (List ℕ) (List ℕ) (List ℕ) after_step (formula_step table ps) link_step
+
+abbrev pub used_in_link : List Def → List (List ℕ) → Link → List ℕ
+used_in_link table ps = fold-Link (List ℕ) (List ℕ) (List ℕ) after_step (formula_step table ps) link_step
+
+abbrev pub used_in_form : List Def → List (List ℕ) → After → List ℕ
+used_in_form table ps = fold-After (List ℕ) (List ℕ) (List ℕ) after_step (formula_step table ps) link_step
+
+abbrev pub used_in_body : List Def → List (List ℕ) → DefBody → List ℕ
+used_in_body table ps (body.Expr e) = used_in table ps e.formula
+used_in_body table ps (body.Pred p) = used_in table ps p.formula
+used_in_body table ps (body.Subst u) = []
+
+-- the definitions that a definition uses
+abbrev pub used_by : List Def → Def → List ℕ
+used_by table d = used_in_body table d.params d.body
+
+abbrev pub all_uses : List Def → List (List ℕ)
+all_uses table = map (used_by table) table
+
+-- ---- circles
+
+-- whether the definition at a place uses that at another
+abbrev pub uses : List (List ℕ) → ℕ → ℕ → Bool
+uses rows i j = list_any (λ k. k == j) (unwrap_or (slice_get rows i) [])
+
+-- whether each place of a list uses the next, and the last one a last place
+abbrev pub leads : List (List ℕ) → ℕ → List ℕ → ℕ → Bool
+leads rows i [] last = uses rows i last
+leads rows i (j ∷ js) last = uses rows i j && leads rows j js last
+
+-- whether each place of a list uses the next, and the last one the first
+abbrev pub is_circle : List (List ℕ) → List ℕ → Bool
+is_circle rows [] = false
+is_circle rows (i ∷ js) = leads rows i js i
