@@ -8,8 +8,6 @@ mod mem_opener;
 mod mem_sink;
 mod mem_source;
 mod outside;
-#[cfg(test)]
-mod tests;
 
 pub use calls::Calls;
 pub use mem_cabinet::{MemCabinet, MemDocument};

@@ -1,5 +1,8 @@
-// The memory forms, each called in turn over a table of calls.
-use super::*;
+// Tables of calls, with what each answers and leaves.
+use host_io::{
+    Cabinet, CabinetFault, Desk, Failed, MemCabinet, MemDocument, MemOpener, MemSession, MemSink,
+    MemSource, Opener, Sink, Source,
+};
 use sqlite_items::Items;
 use std::alloc::{AllocError, Global};
 use std::process::Abort;
