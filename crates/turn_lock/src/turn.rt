@@ -70,6 +70,7 @@ impl<V: Kept + Drop> Turn<V> {
     ghost use Rattle.turn_lock.specs.Jobs.{KeepsOn, Keeps, Ran};
     ghost use Rattle.turn_lock.specs.Holding.{IsWaiting, IsHolding, Came, Worked};
 
+    /// Where memory is wanted the value is dropped.
     pub fn new(alloc: Global, value: V) -> Result<(Turn<V>, Pass<V>), NoMemory>
         requires fits { V.fits (V.tag value) value }
         requires empty { V.history value ≡ [] }
@@ -92,6 +93,7 @@ impl<V: Kept + Drop> Turn<V> {
         }
     }
 
+    /// Takes no memory, and waits for nobody.
     pub fn split(&self, pass: &mut Pass<V>) -> Pass<V>
         requires turn { IsPassOf self.now pass.old }
         requires two { 2 ≤ (known pass.old).shares }
@@ -108,8 +110,10 @@ impl<V: Kept + Drop> Turn<V> {
     pub fn join(&self, into: &mut Pass<V>, other: Pass<V>)
         requires turn { IsPassOf self.now into.old }
         requires other { IsPassOf self.now other }
-        ensures joined { IsPassOf self.now into.new × (known into.new ≡ joined_known (known into.old) (known other)) }
-        ensures one_history { Begins (known into.old).seen (known into.new).seen × Begins (known other).seen (known into.new).seen }
+        ensures joined { IsPassOf self.now into.new
+            × (known into.new ≡ joined_known (known into.old) (known other)) }
+        ensures one_history { Begins (known into.old).seen (known into.new).seen
+            × Begins (known other).seen (known into.new).seen }
         ensures within_all { (known into.new).shares ≤ all_shares }
     {
         let Pass { seat, own, shares } = other;
@@ -122,7 +126,8 @@ impl<V: Kept + Drop> Turn<V> {
 
     // Waits for the turn, and takes the value out.
     fn wait<W: Wait>(&self, rt: &W, seat: &mut Seat<V, View<V::Entry, V::Tag>>, ticket: u64)
-        requires turn { (seat.old.table_id ≡ self.now.table.shared.table_id) × (seat.old.me.0.tag ≡ Some (tag_of V.tag self.now)) }
+        requires turn { (seat.old.table_id ≡ self.now.table.shared.table_id)
+            × (seat.old.me.0.tag ≡ Some (tag_of V.tag self.now)) }
         requires waits { IsWaiting seat.old.me ticket × (0 < seat.old.me.0.shares) }
         ensures turn { seat.new.table_id ≡ seat.old.table_id }
         ensures came { Came V.fits V.history (tag_of V.tag self.now) seat.old.me seat.new.me }
@@ -146,9 +151,12 @@ impl<V: Kept + Drop> Turn<V> {
         job: F,
     ) -> (R, u64)
         requires turn { seat.old.table_id ≡ self.now.table.shared.table_id }
-        requires held { (lent : V) × IsHolding seat.old.me lent × KeepsOn (V.fits (tag_of V.tag self.now)) V.history F.FnOnce job lent }
+        requires held { (lent : V) × IsHolding seat.old.me lent
+            × KeepsOn (V.fits (tag_of V.tag self.now)) V.history F.FnOnce job lent }
         ensures turn { seat.new.table_id ≡ seat.old.table_id }
-        ensures ran { (lent left : V) × (seat.old.me.1 ≡ (0, lent) ∷ []) × (seat.new.me ≡ (seat.old.me.0, (0, left) ∷ [])) × Worked V.history F.FnOnce job lent left result.0 result.1 }
+        ensures ran { (lent left : V) × (seat.old.me.1 ≡ (0, lent) ∷ [])
+            × (seat.new.me ≡ (seat.old.me.0, (0, left) ∷ []))
+            × Worked V.history F.FnOnce job lent left result.0 result.1 }
     {
         let value = seat.slot_mut(&self.table.shared, 0);
         let before = value.length();
@@ -169,7 +177,8 @@ impl<V: Kept + Drop> Turn<V> {
         requires turn { IsPassOf self.now pass.old }
         requires job { Keeps (V.fits (tag_of V.tag self.now)) V.history F.FnOnce (known pass.old).seen job }
         ensures turn { IsPassOf self.now pass.new }
-        ensures ran { Ran (V.fits (tag_of V.tag self.now)) V.history F.FnOnce job result (known pass.old) (known pass.new) }
+        ensures ran { Ran (V.fits (tag_of V.tag self.now)) V.history F.FnOnce job result
+            (known pass.old) (known pass.new) }
         ensures one_history { Begins (known pass.old).seen (known pass.new).seen }
     {
         let shared = &self.table.shared;
@@ -186,7 +195,8 @@ impl<V: Kept + Drop> Turn<V> {
     /// Whoever still has a pass can hold the turn no more.
     pub fn close(self, pass: Pass<V>) -> Closed<V>
         requires { IsPassOf self pass }
-        ensures value { MatchOption result.value (result.missing ≢ 0) (λ value. V.fits (tag_of V.tag self) value × Begins (known pass).seen (V.history value) × (result.own ≤ length (V.history value))) }
+        ensures value { MatchOption result.value (result.missing ≢ 0) (λ value. V.fits (tag_of V.tag self) value
+            × Begins (known pass).seen (V.history value) × (result.own ≤ length (V.history value))) }
         ensures whole { result.missing ≡ 0 → IfSome result.value (λ value. result.own ≡ length (V.history value)) }
         ensures counts { (result.own ≡ (known pass).own) × (result.missing + (known pass).shares ≡ all_shares) }
     {
