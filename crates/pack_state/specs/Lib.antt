@@ -1,0 +1,9 @@
+pub mod Bytes
+pub mod Unpacking
+pub mod Spelled
+pub mod ByteLaws
+pub mod SoundLaws
+pub mod CompleteLaws
+pub mod UnpackLaws
+pub mod Packable
+pub mod PackableLaws
