@@ -152,9 +152,9 @@ module _ (P : Stands Subst) (unique : IsUnique P) where
 
   part_unique : IsUnique (IsPart P)
   part_unique [] x y c d = absurd c
-  part_unique (s ∷ ts) x y c d = go (is_word s.0 word.Skip) (begins_block P s.0) refl refl c d
+  part_unique (s ∷ ts) x y c d = go (is_word s.0 word.Skip) (begins_block s.0) refl refl c d
     where
-      go : (a b : Bool) → is_word s.0 word.Skip ≡ a → begins_block P s.0 ≡ b → IsPart P (s ∷ ts) x → IsPart P (s ∷ ts) y → x ≡ y
+      go : (a b : Bool) → is_word s.0 word.Skip ≡ a → begins_block s.0 ≡ b → IsPart P (s ∷ ts) x → IsPart P (s ∷ ts) y → x ≡ y
       go true b e f c d = let c' = rw e at c in let d' = rw e at d in c'.1 ∙ sym d'.1
       go false true e f c d = ended_unique (cut_at word.End) (IsBlock P s.0 (place s)) (block_unique s.0 (place s)) ts x y (rw (e, f) at c) (rw (e, f) at d)
       go false false e f c d = simple_unique (s ∷ ts) x y (rw (e, f) at c) (rw (e, f) at d)

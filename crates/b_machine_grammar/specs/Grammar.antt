@@ -204,6 +204,19 @@ same_names [] (c ∷ cs) = false
 same_names (b ∷ bs) [] = false
 same_names (b ∷ bs) (c ∷ cs) = if bytes_eq b.name c.name then same_names bs cs else false
 
+-- whether a word begins a substitution that ends with END
+abbrev pub begins_block : Word → Bool
+begins_block word.Begin = true
+begins_block word.Pre = true
+begins_block word.Assert = true
+begins_block word.If = true
+begins_block word.Select = true
+begins_block word.Choice = true
+begins_block word.Case = true
+begins_block word.Any = true
+begins_block word.Let = true
+begins_block w = false
+
 -- ---- substitutions; P says what substitutions with one bracket less are
 
 -- the name of `x = E`
@@ -277,19 +290,6 @@ module _ (P : Stands Subst) where
   IsBlock word.Any p = IsAny p
   IsBlock word.Let p = IsLet p
   IsBlock w p = IsNever
-
-  -- whether a word begins a substitution that ends with END
-  abbrev pub begins_block : Word → Bool
-  begins_block word.Begin = true
-  begins_block word.Pre = true
-  begins_block word.Assert = true
-  begins_block word.If = true
-  begins_block word.Select = true
-  begins_block word.Choice = true
-  begins_block word.Case = true
-  begins_block word.Any = true
-  begins_block word.Let = true
-  begins_block w = false
 
   -- a substitution without `||` and `;` outside brackets, by its first word
   abbrev pub IsPart : Stands Subst
