@@ -100,8 +100,7 @@ module _ (rows : List Row) (q : Rule) (left right whole : ℕ) (table : IsTable 
 
     grown_alike : ThreeAlike whole left right (length rows) grown
     grown_alike =
-        let e : length rows + 0 ≡ length rows = omega arith in
-        (
+        let e : length rows + 0 ≡ length rows = omega arith in (
           grown_front whole w_in ∙ sym g_whole ∙ sym (grown_back 0) ∙ ap grown e,
           grown_front left l_in ∙ sym g_left ∙ sym (grown_back 1),
           grown_front right r_in ∙ sym g_right ∙ sym (grown_back 2),
@@ -128,12 +127,11 @@ module _ (rows : List Row) (q : Rule) (left right whole : ℕ) (table : IsTable 
   obeyed s f three =
       let both = scheme_forth rows (scheme_of q) s f in
       let e : length rows + 0 ≡ length rows = omega arith in
-      let law = back q (λ k. s (length rows + k)) (solves_from (λ k. s (length rows + k)) (scheme_of q) both.1) in
-      (
+      let law = back q (λ k. s (length rows + k)) (solves_from (λ k. s (length rows + k)) (scheme_of q) both.1) in (
         both.0,
         subst (λ x. Obeys q x (s right) (s whole)) (sym three.1)
-        (subst (λ y. Obeys q (s (length rows + 1)) y (s whole)) (sym three.2)
-        (subst (λ z. Obeys q (s (length rows + 1)) (s (length rows + 2)) z) (ap s e ∙ sym three.0) law)),
+            (subst (λ y. Obeys q (s (length rows + 1)) y (s whole)) (sym three.2)
+            (subst (λ z. Obeys q (s (length rows + 1)) (s (length rows + 2)) z) (ap s e ∙ sym three.0) law)),
       )
 
   demanded_true : (new : List Row) → Adds (with_scheme rows (scheme_of q)) new (ThreeAlike whole left right (length rows)) true → Extends rows new Law

@@ -19,8 +19,7 @@ SolvesFrom g k (r ∷ rs) = Fits g (g k) r × SolvesFrom g (k + 1) rs
 from_solves : (g : Typing) (k : ℕ) (rows : List Row) → ((i : ℕ) → Fits g (g (k + i)) (row_at rows i)) → SolvesFrom g k rows
 from_solves g k [] f = tt
 from_solves g k (r ∷ rs) f =
-    let here : k + 0 ≡ k = omega arith in
-    (
+    let here : k + 0 ≡ k = omega arith in (
       subst (λ n. Fits g (g n) r) here (f 0),
       from_solves g (k + 1) rs (λ i. let next : k + (suc i) ≡ k + 1 + i = omega arith in subst (λ n. Fits g (g n) (row_at rs i)) next (f (suc i))),
     )

@@ -48,7 +48,14 @@ fn put_behind(rows: &mut Vec<Row>, scheme: &[Row]) -> Result<(), AllocError>
 
 /// Makes three parts be of the types of three rows that stand together.
 #[tactic(auto, using(crate::proofs::Demands::three_all, crate::proofs::Demands::three_first, crate::proofs::Demands::three_second))]
-fn make_alike(alloc: Global, rows: &mut [Row], whole: usize, left: usize, right: usize, at: usize) -> Result<bool, AllocError>
+fn make_alike(
+    alloc: Global,
+    rows: &mut [Row],
+    whole: usize,
+    left: usize,
+    right: usize,
+    at: usize,
+) -> Result<bool, AllocError>
     requires table { IsTable rows.old }
     requires whole { whole < length rows.old }
     requires left { left < length rows.old }
@@ -68,7 +75,14 @@ fn make_alike(alloc: Global, rows: &mut [Row], whole: usize, left: usize, right:
 /// Puts a rule for three parts into a table, or finds that no typing obeys it. A rule of fewer parts doesn't look at
 /// the others.
 #[tactic(auto, using(crate::proofs::Demands::demanded, crate::proofs::Demands::scheme_table, crate::proofs::Demands::scheme_room, crate::proofs::Shortness::scheme_short))]
-pub fn demand(alloc: Global, rows: &mut Vec<Row>, rule: Rule, left: usize, right: usize, whole: usize) -> Result<bool, AllocError>
+pub fn demand(
+    alloc: Global,
+    rows: &mut Vec<Row>,
+    rule: Rule,
+    left: usize,
+    right: usize,
+    whole: usize,
+) -> Result<bool, AllocError>
     requires table { IsTable rows.old.items }
     requires left { left < length rows.old.items }
     requires right { right < length rows.old.items }

@@ -169,10 +169,15 @@ fn operator_rule(operator: Operator) -> Rule
         | Operator::TotalSurjections
         | Operator::TotalBijections => Rule::Relations,
         Operator::Member | Operator::NotMember => Rule::Membership,
-        Operator::Subset | Operator::NotSubset | Operator::StrictSubset | Operator::NotStrictSubset => Rule::Inclusion,
+        Operator::Subset
+        | Operator::NotSubset
+        | Operator::StrictSubset
+        | Operator::NotStrictSubset => Rule::Inclusion,
         Operator::Equal | Operator::NotEqual => Rule::Equality,
-        Operator::Less | Operator::Greater | Operator::LessOrEqual | Operator::GreaterOrEqual => Rule::NumberOrder,
-        Operator::Equivalence | Operator::And | Operator::Or | Operator::Implication => Rule::Connective,
+        Operator::Less | Operator::Greater | Operator::LessOrEqual | Operator::GreaterOrEqual =>
+            Rule::NumberOrder,
+        Operator::Equivalence | Operator::And | Operator::Or | Operator::Implication =>
+            Rule::Connective,
     }
 }
 

@@ -13,4 +13,4 @@ returns c =
     let kept : length c.make_alike.new.rows ≡ length c.as_mut_slice.result.now = c.make_alike.auto.rows in
     let front = take_at c.make_alike.new.rows (drop (length c.make_alike.new.rows) c.put_behind.new.rows.items) c.put_behind.new.rows.len (kept ∙ ap length slice ∙ sym len) in
     demanded_any c.args.rows.now.items c.put_behind.new.rows.items c.as_mut_slice.result.now c.make_alike.new.rows _ c.scheme_of.result.now c.args.rule c.args.left c.args.right c.args.whole c.len-at.result c.make_alike.result
-        c.requires.table c.requires.left c.requires.right c.requires.whole behind c.scheme_of.ensures slice at front c.make_alike.ensures
+    c.requires.table c.requires.left c.requires.right c.requires.whole behind c.scheme_of.ensures slice at front c.make_alike.ensures
