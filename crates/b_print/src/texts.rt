@@ -1,5 +1,6 @@
 //! The canonical text of a formula: the one text by which a tree is written.
-ghost use Rattle.std.specs.Prelude.{◌≡◌, ◌++◌, ◌∷◌, IfOk, OnOk, decimal, map};
+ghost use Rattle.std.specs.Prelude.{◌≡◌, ◌++◌, ◌∷◌, IfOk, OnOk, codes, decimal, map};
+ghost use Rattle.b_print.specs.Spellings as spelled;
 ghost use Rattle.b_print.specs.Texts as spec;
 
 use crate::spellings::{
@@ -127,6 +128,13 @@ fn write_comprehension_front(out: &mut Vec<u8>, names: &[Bound]) -> Result<(), A
 {
     out.push(b'{')?;
     write_names(out, names)?;
+    write_bar(out)
+}
+
+// The bar between the parts of a binder.
+fn write_bar(out: &mut Vec<u8>) -> Result<(), AllocError>
+    ensures { OnOk result (out.new.items ≡ out.old.items ++ codes " | ") }
+{
     out.extend_from_slice(b" | ")
 }
 
@@ -173,6 +181,32 @@ fn chain_binds(links: &[Link]) -> u64
     }
 }
 
+// How tight the neighbours of operands bind: the sign before an operand, the forms behind one, the links of a chain
+// behind its first operand, and an operator before its right operand.
+fn beside_sign() -> u64
+    ensures { result ≡ spelled.sign }
+{
+    SIGN
+}
+
+fn beside_forms() -> u64
+    ensures { result ≡ spelled.forms }
+{
+    FORMS
+}
+
+fn beside_links(links: &[Link]) -> u64
+    ensures { result ≡ spec.chain_binds (map spec.link_text links.now) }
+{
+    chain_binds(links)
+}
+
+fn behind(operator: Operator) -> u64
+    ensures { result ≡ spelled.priority operator }
+{
+    priority(operator)
+}
+
 // The bracket before and behind what binds no tighter than its neighbour.
 fn write_opening(out: &mut Vec<u8>, own: u64, neighbour: u64) -> Result<(), AllocError>
     ensures { OnOk result (out.new.items ≡ out.old.items ++ spec.opening own neighbour) }
@@ -209,19 +243,19 @@ fn write_at(out: &mut Vec<u8>, tree: &Formula, neighbour: u64) -> Result<(), All
         Formula::Negative(_, e) => {
             write_opening(out, SIGN, neighbour)?;
             out.push(b'-')?;
-            write_at(out, e.get(), SIGN)?;
+            write_at(out, e.get(), beside_sign())?;
             write_closing(out, SIGN, neighbour)
         }
         Formula::Chain(e, links) => {
             let own = chain_binds(links.as_slice());
             write_opening(out, own, neighbour)?;
-            write_at(out, e.get(), own)?;
+            write_at(out, e.get(), beside_links(links.as_slice()))?;
             write_links(out, links.as_slice())?;
             write_closing(out, own, neighbour)
         }
         Formula::Row(e, forms) => {
             write_opening(out, FORMS, neighbour)?;
-            write_at(out, e.get(), FORMS)?;
+            write_at(out, e.get(), beside_forms())?;
             write_forms(out, forms.as_slice())?;
             write_closing(out, FORMS, neighbour)
         }
@@ -254,7 +288,7 @@ fn write_at(out: &mut Vec<u8>, tree: &Formula, neighbour: u64) -> Result<(), All
         Formula::Collected(_, c, names, p, e) => {
             write_collected_front(out, *c, names.as_slice())?;
             write_at(out, p.get(), INSIDE)?;
-            out.extend_from_slice(b" | ")?;
+            write_bar(out)?;
             write_at(out, e.get(), INSIDE)?;
             out.extend_from_slice(b")")
         }
@@ -277,7 +311,7 @@ fn write_links(out: &mut Vec<u8>, links: &[Link]) -> Result<(), AllocError>
 {
     for link in links {
         write_operator(out, link.operator)?;
-        write_at(out, &link.operand, priority(link.operator))?;
+        write_at(out, &link.operand, behind(link.operator))?;
     }
     Ok(())
 }
