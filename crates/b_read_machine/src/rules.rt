@@ -27,9 +27,7 @@ fn is_head(s: Stretch<'_>) -> bool
 {
     match first(s) {
         None => false,
-        Some((word, _, more)) => {
-            is_word(Word::Name, word) && begins_with(more, Word::RoundOpen)
-        }
+        Some((word, _, more)) => { is_word(Word::Name, word) && begins_with(more, Word::RoundOpen) }
     }
 }
 

@@ -160,9 +160,7 @@ pub fn cut_at<'a>(s: Stretch<'a>, word: Word) -> Split<'a>
 }
 
 // What follows, unless it is the last lexeme.
-fn unless_last<'a>(
-    next: Option<Follow<'a>>,
-) -> Option<Follow<'a>>
+fn unless_last<'a>(next: Option<Follow<'a>>) -> Option<Follow<'a>>
     ensures { spec.next_of result ≡ spec.unless_last (spec.next_of next.entry) }
 {
     match next {
