@@ -7,10 +7,10 @@ use b_expand::{
     is_comma,
 };
 use b_lex::lex;
-use b_limits::{BRACKET_LIMIT, Facts, NODE_LIMIT, expand, measured};
 use b_names::index_of;
-use b_parse_expr::{parse_formula, tree_of_text};
+use b_parse_expr::{parse_formula, parse_formula_under, tree_of_text};
 use b_print::texts::{print_expr, print_pred};
+use b_summaries::{BRACKET_LIMIT, NODE_LIMIT, definitions_of, expand, measured};
 use sqlite_items::Items;
 use std::alloc::{AllocError, Global};
 use std::test::Fail;
@@ -84,10 +84,9 @@ fn table(alloc: Global, text: &str) -> Result<DefTable, Fail> {
     Ok(DefTable { defs })
 }
 
-// The canonical text of what a text stands for, or why it is no formula.
-fn shown(alloc: Global, defs: &DefTable, text: &[u8]) -> Result<Vec<u8>, Fail> {
-    let tokens = lex(alloc, text)?;
-    match parse_formula(alloc, text, &tokens, defs) {
+// The canonical text of a formula, or why there is none.
+fn written(alloc: Global, answer: Result<FormulaText, ParseFault>) -> Result<Vec<u8>, Fail> {
+    match answer {
         Ok(FormulaText::Expr(e)) => Ok(print_expr(alloc, &e)?),
         Ok(FormulaText::Pred(p)) => Ok(print_pred(alloc, &p)?),
         Err(ParseFault::Refused { kind, at: _ }) => match kind {
@@ -98,6 +97,12 @@ fn shown(alloc: Global, defs: &DefTable, text: &[u8]) -> Result<Vec<u8>, Fail> {
         },
         Err(ParseFault::Memory) => Err(Fail::from("no memory")),
     }
+}
+
+// The canonical text of what a text stands for, or why it is no formula.
+fn shown(alloc: Global, defs: &DefTable, text: &[u8]) -> Result<Vec<u8>, Fail> {
+    let tokens = lex(alloc, text)?;
+    written(alloc, parse_formula(alloc, text, &tokens, defs))
 }
 
 // Each line has definitions, a text, and the canonical text of what it stands for.
@@ -112,7 +117,6 @@ d:p:p + p@d(1 + 2)@(1 + 2) + (1 + 2)
 d:p:1@d(2)@1
 d:p:1@d(1 = 2)@1
 d::1;;e::d + d@e * e@(1 + 1) * (1 + 1)
-d::e;;e::1@d@e
 d::1;;d::2@d@1
 d::1;;d::d@d@1
 d:p:p;;d:p,q:q@d(3)@3
@@ -261,6 +265,22 @@ fn wrong_uses(rt: HostRuntime) -> Result<(), Fail> {
     Ok(())
 }
 
+// The same in an argument that vanishes.
+#[test]
+fn wrong_uses_in_arguments(rt: HostRuntime) -> Result<(), Fail> {
+    for line in WRONG_USES.lines() {
+        let Some((defs, text)) = line.split_once('@') else {
+            return Err(Fail::from("a line without a text"));
+        };
+        let defs = format!(in rt.alloc(); "{defs};;z:y:1")?;
+        let defs = table(rt.alloc(), defs.as_str())?;
+        let text = format!(in rt.alloc(); "z({text})")?;
+        let said = shown(rt.alloc(), &defs, text.as_bytes())?;
+        assert!(rt; said.as_slice() == b"none".as_slice(), "{line}");
+    }
+    Ok(())
+}
+
 // A text in so many round brackets.
 fn in_brackets(alloc: Global, text: &str, count: usize) -> Result<Vec<u8>, AllocError> {
     let mut all = Vec::new(alloc);
@@ -347,17 +367,54 @@ fn doublings(rt: HostRuntime) -> Result<(), Fail> {
     Ok(())
 }
 
-// Thousands of definitions that each stand for the one before have too many brackets open, if memory is there to see it.
+// Thousands of definitions that each stand for the one before have too many brackets open.
 #[test]
 fn long_row_of_names(rt: HostRuntime) -> Result<(), Fail> {
     let defs = doubling(rt.alloc(), "d1::1", "::#", 3000)?;
-    let tokens = lex(rt.alloc(), b"d3000")?;
-    match parse_formula(rt.alloc(), b"d3000", &tokens, &defs) {
-        Ok(_) => assert!(rt; false),
-        Err(ParseFault::Refused { kind, at }) => {
-            assert!(rt; kind == ParseKind::TooDeep && at == 0);
-        }
-        Err(ParseFault::Memory) => assert!(rt; true),
+    let said = shown(rt.alloc(), &defs, b"d3000")?;
+    assert!(rt; said.as_slice() == b"deep".as_slice());
+    Ok(())
+}
+
+// An argument without a place is judged from the summaries of what it uses, however deep it would be.
+#[test]
+fn arguments_that_vanish(rt: HostRuntime) -> Result<(), Fail> {
+    let renamed = ("k:x:1;;d1::1", "::#");
+    let wrapped = ("k:x:1;;d1::1", "::k(#)");
+    let rows = [
+        (renamed, 500usize, "k(d500)", "1"),
+        (renamed, 501, "d501", "deep"),
+        (renamed, 2000, "k(d2000)", "1"),
+        (wrapped, 251, "d251", "1"),
+        (wrapped, 2000, "d2000", "1"),
+        (wrapped, 2000, "k(d2000) + d1", "1 + 1"),
+    ];
+    for ((first, pattern), count, text, wanted) in rows {
+        let defs = doubling(rt.alloc(), first, pattern, count)?;
+        let said = shown(rt.alloc(), &defs, text.as_bytes())?;
+        assert!(rt; said.as_slice() == wanted.as_bytes(), "{text}");
+    }
+    Ok(())
+}
+
+// Uses whose arguments all differ: each definition is still summed up once.
+#[test]
+fn growing_arguments(rt: HostRuntime) -> Result<(), Fail> {
+    let four = ":p,q:#(p+p,q+q) + #(p+p+1,q+q) + #(p+p,q+q+1) + #(p+p+1,q+q+1)";
+    let two = ":p,q:#(p+q,p) + #(q,p+1)";
+    let rows = [
+        (four, 2usize, "k(d2(1,2))", "1"),
+        (four, 20, "d20(1,2)", "wide"),
+        (four, 20, "k(d20(1,2))", "1"),
+        (four, 20, "k(d20(1,2) + (1 = 1))", "none"),
+        (two, 2, "d2(1,2)", "((1 + 2) + 1) + (2 + (1 + 1))"),
+        (two, 30, "d30(1,2)", "wide"),
+        (two, 30, "k(d30(1,2))", "1"),
+    ];
+    for (pattern, count, text, wanted) in rows {
+        let defs = doubling(rt.alloc(), "k:x:1;;d1:p,q:p + q", pattern, count)?;
+        let said = shown(rt.alloc(), &defs, text.as_bytes())?;
+        assert!(rt; said.as_slice() == wanted.as_bytes(), "{text}");
     }
     Ok(())
 }
@@ -373,14 +430,31 @@ fn product(alloc: Global) -> Result<(DefTable, Formula), Fail> {
 #[test]
 fn measures(rt: HostRuntime) -> Result<(), Fail> {
     let (defs, formula) = product(rt.alloc())?;
-    let wanted = Facts {
-        sort: Some(Sort::Expression),
-        nodes: 5,
-        depth: 1,
-    };
-    assert_eq!(rt; measured(rt.alloc(), &defs, &formula)?, Some(wanted));
+    let made = definitions_of(rt.alloc(), &defs)?;
+    match measured(rt.alloc(), &made, &formula)? {
+        Some(facts) => {
+            assert!(rt; facts.sort == Sort::Expression);
+            assert_eq!(rt; facts.size.nodes, 5);
+            assert_eq!(rt; facts.size.depth, Some(1));
+        }
+        None => assert!(rt; false),
+    }
     assert_eq!(rt; BRACKET_LIMIT, 100);
     assert_eq!(rt; NODE_LIMIT, 1_000_000);
+    Ok(())
+}
+
+// Two texts under definitions that are made once.
+#[test]
+fn made_once(rt: HostRuntime) -> Result<(), Fail> {
+    let defs = table(rt.alloc(), "d::1 + 2;;k:x:1")?;
+    let made = definitions_of(rt.alloc(), &defs)?;
+    for (text, wanted) in [("d * k(d)", "(1 + 2) * 1"), ("k + 1", "none")] {
+        let tokens = lex(rt.alloc(), text.as_bytes())?;
+        let answer = parse_formula_under(rt.alloc(), text.as_bytes(), &tokens, &made);
+        let said = written(rt.alloc(), answer)?;
+        assert!(rt; said.as_slice() == wanted.as_bytes(), "{text}");
+    }
     Ok(())
 }
 
@@ -392,7 +466,8 @@ fn put_in(alloc: Global) -> Result<Vec<u8>, Fail> {
 
 fn put_in_within_limits(alloc: Global) -> Result<Vec<u8>, Fail> {
     let (defs, formula) = product(alloc)?;
-    match expand(alloc, &defs, &formula) {
+    let made = definitions_of(alloc, &defs)?;
+    match expand(alloc, &made, &formula) {
         Ok(FormulaText::Expr(e)) => Ok(print_expr(alloc, &e)?),
         _ => Err(Fail::from("no expression")),
     }
@@ -414,10 +489,11 @@ fn refusals(rt: HostRuntime) -> Result<(), Fail> {
     let defs = table(alloc, "k:x:1")?;
     let index = index_of(alloc, defs.defs.as_slice())?;
     let wrong = tree(alloc, "1 + k(1, 2)")?;
-    assert_eq!(rt; measured(alloc, &defs, &wrong)?, None);
+    let made = definitions_of(alloc, &defs)?;
+    assert!(rt; measured(alloc, &made, &wrong)?.is_none());
     assert_eq!(rt; refused_at(&wrong, &index), 4);
     assert_eq!(rt; refused_at(&tree(alloc, " x + 1")?, &index), 1);
-    match expand(alloc, &defs, &wrong) {
+    match expand(alloc, &made, &wrong) {
         Err(Unexpanded::Refused(why, at)) => {
             assert!(rt; why == Unfit::NotASentence && at == 4);
         }

@@ -1,7 +1,0 @@
-use Rattle.b_limits.specs.Memory.{IsIndexed}
-use Rattle.b_limits.proofs.indexed.Goals as goal
-
--- an index of a table is one for a text of it
-pub returns : goal.returns
-unfolding IsIndexed
-returns c = c.index_of.ensures

@@ -1,8 +1,0 @@
-use Rattle.std.proofs.Common.{◌≡◌, map, drop}
-use Rattle.std.specs.List.{list_all}
-use Rattle.b_limits.specs.Standing.{side_in}
-use Rattle.b_limits.proofs.measuring.are_commas.Given as goal
-
--- what is left decides
-abbrev pub invariant-loop-link : goal.invariant-loop-link
-invariant-loop-link l = list_all (λ k. k.comma) (map (side_in l.text) (drop l.link-index l.links)) ≡ list_all (λ k. k.comma) (map (side_in l.text) l.links)

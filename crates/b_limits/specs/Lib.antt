@@ -1,4 +1,0 @@
-pub mod Facts
-pub mod Measured
-pub mod Memory
-pub mod Standing
