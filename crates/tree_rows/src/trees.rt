@@ -1,9 +1,10 @@
-use super::spellings::{constant_word, function_word, priority, quantifier_sign, sign_of};
-use super::texts::{print_expr, print_pred};
+// Trees made by hand and what they are printed as.
 use b_ast::{
     After, Bound, Collector, Constant, Expr, Formula, Function, Link, Operator, Place, Pred,
     Quantifier,
 };
+use b_print::spellings::{constant_word, function_word, priority, quantifier_sign, sign_of};
+use b_print::texts::{print_expr, print_pred};
 use sqlite_items::{Boxed, Items};
 use std::alloc::{AllocError, Global};
 use std::process::Abort;
