@@ -11,6 +11,3 @@ pub use arrangements::{iseq, perm};
 pub use arrows::{bijections, partial, partial_inj, partial_surj, total, total_inj, total_surj};
 pub use sequences::{seq, seq1};
 pub use subsets::{pow, pow1, relations};
-
-#[cfg(test)]
-mod tests;

@@ -15,6 +15,3 @@ pub use iterating::iterate;
 pub use joining::{compose, direct, parallel, prj1, prj2};
 pub use restricting::{dom_restrict, dom_subtract, overwrite, ran_restrict, ran_subtract};
 pub use turning::{converse, dom, identity, ran};
-
-#[cfg(test)]
-mod tests;

@@ -9,6 +9,3 @@ mod parts;
 pub use joins::{append, conc, concat, prepend, rev};
 pub use numbering::is_sequence;
 pub use parts::{drop_first, first, front, last, size, tail, take};
-
-#[cfg(test)]
-mod tests;

@@ -16,6 +16,3 @@ pub use b_sets::{
 };
 pub use laws::{difference_of_union, domain_of_converse, reverse_of_reverse, size_of_join};
 pub use set_making::OpFault;
-
-#[cfg(test)]
-mod tests;

@@ -10,6 +10,3 @@ pub use families::{big_inter, big_union};
 pub use numbers::{card, interval, max, min};
 pub use pairs::{difference, intersect, union};
 pub use products::times;
-
-#[cfg(test)]
-mod tests;

@@ -76,6 +76,3 @@ pub fn is_among(items: &[Value], x: &Value) -> bool
 {
     is_member(items, x)
 }
-
-#[cfg(test)]
-mod tests;

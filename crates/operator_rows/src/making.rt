@@ -1,11 +1,16 @@
+// Sets made by their members.
 ghost use Rattle.std.specs.Prelude.{◌<◌};
 ghost use Rattle.ascending.specs.Ascending.{IsAscending};
 ghost use Rattle.b_values.specs.Values.{value_cmp};
 ghost use Rattle.set_making.specs.Making.{Answers};
 ghost use Rattle.set_making.specs.Making as spec;
 
-use super::*;
-use b_values::{same_value, set_from};
+use b_values::{FaultKind, Value, same_value, set_from};
+use set_making::{
+    Gathering, Growing, OpFault, couple, is_among, merge, set_in_order, set_with, within_limit,
+};
+use shared::Shared;
+use std::alloc::{AllocError, Global};
 use std::process::Abort;
 use std::test::Fail;
 

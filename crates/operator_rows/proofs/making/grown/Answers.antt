@@ -11,7 +11,7 @@ use Rattle.set_making.specs.declared.OpFault.{OpFault}
 use Rattle.set_making.specs.Making.{Answers, FaultOf, set_with}
 use Rattle.set_making.specs.MakingLaws.{answers_fault, fault_of_more}
 use Rattle.std.proofs.Common.{Err}
-use Rattle.set_making.proofs.tests.grown.Goals as goal
+use Rattle.operator_rows.proofs.making.grown.Goals as goal
 
 prefix_is : (xs found : List Value) (i : ℕ) (x m : Value) → i < length xs → x ≡ get_or xs i x → m ≡ x → found ≡ take i xs → (found ++ m ∷ []) ++ drop (i + 1) xs ≡ xs
 prefix_is xs found i x m h e f g =
