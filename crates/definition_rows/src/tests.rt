@@ -482,23 +482,48 @@ fn expands(rt: HostRuntime) -> Result<(), Fail> {
     Ok(())
 }
 
+// A definition, and a sum that uses it with too many arguments.
+fn wrong_sum(alloc: Global) -> Result<(DefTable, Formula), Fail> {
+    let defs = table(alloc, "k:x:1")?;
+    let formula = tree(alloc, "1 + k(1, 2)")?;
+    Ok((defs, formula))
+}
+
+fn refusal_place(alloc: Global, text: &str) -> Result<u64, Fail> {
+    let defs = table(alloc, "k:x:1")?;
+    let formula = tree(alloc, text)?;
+    let index = index_of(alloc, defs.defs.as_slice())?;
+    Ok(refused_at(&formula, &index))
+}
+
 // A use with too many arguments stands at its byte; a formula without uses at its own.
 #[test]
-fn refusals(rt: HostRuntime) -> Result<(), Fail> {
-    let alloc = rt.alloc();
-    let defs = table(alloc, "k:x:1")?;
-    let index = index_of(alloc, defs.defs.as_slice())?;
-    let wrong = tree(alloc, "1 + k(1, 2)")?;
+fn places_of_refusals(rt: HostRuntime) -> Result<(), Fail> {
+    assert_eq!(rt; refusal_place(rt.alloc(), "1 + k(1, 2)")?, 4);
+    assert_eq!(rt; refusal_place(rt.alloc(), " x + 1")?, 1);
+    Ok(())
+}
+
+fn is_unknown(alloc: Global) -> Result<bool, Fail> {
+    let (defs, formula) = wrong_sum(alloc)?;
     let made = definitions_of(alloc, &defs)?;
-    assert!(rt; measured(alloc, &made, &wrong)?.is_none());
-    assert_eq!(rt; refused_at(&wrong, &index), 4);
-    assert_eq!(rt; refused_at(&tree(alloc, " x + 1")?, &index), 1);
-    match expand(alloc, &made, &wrong) {
-        Err(Unexpanded::Refused(why, at)) => {
-            assert!(rt; why == Unfit::NotASentence && at == 4);
-        }
-        _ => assert!(rt; false),
+    Ok(measured(alloc, &made, &formula)?.is_none())
+}
+
+fn refused_there(alloc: Global) -> Result<Option<u64>, Fail> {
+    let (defs, formula) = wrong_sum(alloc)?;
+    let made = definitions_of(alloc, &defs)?;
+    match expand(alloc, &made, &formula) {
+        Err(Unexpanded::Refused(Unfit::NotASentence, at)) => Ok(Some(at)),
+        _ => Ok(None),
     }
+}
+
+// What is used wrongly has no facts, and is no sentence.
+#[test]
+fn refusals(rt: HostRuntime) -> Result<(), Fail> {
+    assert!(rt; is_unknown(rt.alloc())?);
+    assert_eq!(rt; refused_there(rt.alloc())?, Some(4));
     Ok(())
 }
 
