@@ -1,4 +1,8 @@
+ghost use Rattle.std.specs.Prelude.{◌≡◌};
+
+use crate::judged::Judge;
 use crate::numbers::{Numbers, name};
+use crate::spaces::{close_last, open_judged, put_by_two};
 use crate::tally::{Tally, raise};
 use crate::{join_each, raise_by_four, split_many};
 use std::test::Fail;
@@ -87,5 +91,32 @@ fn four_threads_raise_one_tally(rt: HostRuntime) -> Result<(), Fail> {
             count
         );
     }
+    Ok(())
+}
+
+// A judge whose best number is its own.
+#[derive(Drop)]
+struct Lone(u64);
+
+impl Judge for Lone {
+    ghost good = { λ lone x. x ≡ lone.0 };
+
+    fn best(&self) -> u64 {
+        self.0
+    }
+}
+
+#[test]
+fn two_threads_put_under_33_turns(rt: HostRuntime) -> Result<(), Fail> {
+    let judge = Lone(7);
+    let (mut turns, passes) = open_judged(rt.alloc(), 33, &judge)?;
+    let mut passes = put_by_two(&rt, rt.alloc(), turns.as_slice(), passes, &judge)?;
+    for _ in 0..33 {
+        let last = close_last(&mut turns, &mut passes).expect(&rt, "there are 33 turns");
+        assert_eq!(rt; (last.own, last.missing), (2, 0));
+        let judged = last.value.expect(&rt, "no pass is missing");
+        assert!(rt; judged.items() == [7, 7].as_slice());
+    }
+    assert!(rt; close_last(&mut turns, &mut passes).is_none());
     Ok(())
 }
