@@ -2,9 +2,9 @@ ghost use Rattle.std.specs.Prelude.{◌≡◌, List, length};
 
 /// A value that keeps a history, a list of entries that only grows at its end, and that fits a tag.
 pub trait Kept {
-    /// What the value has to fit. No value of it is made.
+    /// What the value has to fit. The turn makes no value of it.
     type Tag;
-    /// What the history is a list of. No value of it is made.
+    /// What the history is a list of. The turn makes no value of it.
     type Entry;
 
     // the tag of a value that a turn is made with

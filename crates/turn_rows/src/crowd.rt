@@ -51,7 +51,7 @@ fn raise_by_both<R: Threads + Wait + Sync>(
     )
 }
 
-/// Four threads raise a tally so many times each. In the end each time was counted once.
+/// Four threads raise a tally so many times each. In the end each raise that was not refused was counted once.
 pub fn raise_by_four<R: Threads + Wait + Sync>(
     rt: &R,
     alloc: Global,
