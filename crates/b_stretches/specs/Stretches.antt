@@ -7,10 +7,10 @@ use Rattle.b_machine_grammar.specs.declared.words.Separator.{Separator}
 use Rattle.b_machine_grammar.specs.Words as words
 use Rattle.b_machine_grammar.specs.Cuts as cuts
 use Rattle.b_machine_grammar.specs.Cuts.{Piece, Stands, Next, Cutting, IsLast}
-use Rattle.b_read_machine.specs.declared.Unread.{Unread}
-use Rattle.b_read_machine.specs.declared.Unread.TheVariants as unread
-use Rattle.b_read_machine.specs.declared.stretch.Stretch.{Stretch}
-use Rattle.b_read_machine.specs.declared.stretch.Split.{Split}
+use Rattle.b_stretches.specs.declared.Unread.{Unread}
+use Rattle.b_stretches.specs.declared.Unread.TheVariants as unread
+use Rattle.b_stretches.specs.declared.Stretch.{Stretch}
+use Rattle.b_stretches.specs.declared.Split.{Split}
 
 abbrev pub is_word : Word → Word → Bool
 is_word = words.is_word
@@ -87,3 +87,13 @@ IsEnclosedAs opening by [] (Ok s) = ⊥
 IsEnclosedAs opening by [] (Err e) = IsNoMachine e
 IsEnclosedAs opening by (t ∷ ts) (Ok s) = (t.0 ≡ opening) × ((pieces s ≡ (by ts).0) × IsLast (by ts).1)
 IsEnclosedAs opening by (t ∷ ts) (Err e) = IsNoMachine e × (t.0 ≡ opening → IsLast (by ts).1 → ⊥)
+
+-- this stands behind a separator
+abbrev pub IsFollowedBy : Next → List Piece → Type 0
+IsFollowedBy None back = ⊥
+IsFollowedBy (Some p) back = back ≡ p.1
+
+-- what stands on both sides of a separator
+abbrev pub IsHalvedAs : cuts.Cut → Result (Stretch × Stretch) Unread → Type 0
+IsHalvedAs c (Ok p) = (pieces p.0 ≡ c.0) × IsFollowedBy c.1 (pieces p.1)
+IsHalvedAs c (Err e) = IsNoMachine e × (c.1 ≡ None)

@@ -8,9 +8,9 @@ use Rattle.b_machine_grammar.specs.contracts.words.Word as word_type
 use Rattle.b_machine_grammar.specs.Words.{opens, closes}
 use Rattle.b_machine_grammar.specs.Cuts.{Piece, Next, Cutting, cut_from, ends_part, and_before, depth_behind}
 use Rattle.b_machine_grammar.specs.Cuts as cuts
-use Rattle.b_read_machine.specs.declared.Unread.{Unread}
-use Rattle.b_read_machine.specs.Stretches.{zipped, is_word, IsEndedAs, IsEnclosedAs}
-use Rattle.b_read_machine.specs.declared.stretch.Stretch.{Stretch}
+use Rattle.b_stretches.specs.declared.Unread.{Unread}
+use Rattle.b_stretches.specs.Stretches.{zipped, is_word, IsEndedAs, IsEnclosedAs}
+use Rattle.b_stretches.specs.declared.Stretch.{Stretch}
 
 pub front_pieces : (n : ℕ) (ws : List Word) (ls : List Lexeme) → zipped (take n ws) (take n ls) ≡ take n (zipped ws ls)
 front_pieces zero ws ls = refl

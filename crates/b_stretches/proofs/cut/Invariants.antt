@@ -1,7 +1,7 @@
 use Rattle.std.proofs.Common.{◌≡◌, length}
-use Rattle.b_read_machine.specs.Stretches.{pieces}
-use Rattle.b_read_machine.proofs.Pieces.{IsScanned}
-use Rattle.b_read_machine.proofs.stretch.cut.Given as goal
+use Rattle.b_stretches.specs.Stretches.{pieces}
+use Rattle.b_stretches.proofs.Pieces.{IsScanned}
+use Rattle.b_stretches.proofs.cut.Given as goal
 
 -- what was passed over has no separator outside brackets
 abbrev pub invariant-loop-word : goal.invariant-loop-word

@@ -1,7 +1,7 @@
 use Rattle.std.proofs.Common.{sym}
-use Rattle.b_read_machine.specs.Stretches.{pieces, cut_at}
-use Rattle.b_read_machine.proofs.Pieces.{enclosed_read}
-use Rattle.b_read_machine.proofs.stretch.enclosed.Goals as goal
+use Rattle.b_stretches.specs.Stretches.{pieces, cut_at}
+use Rattle.b_stretches.proofs.Pieces.{enclosed_read}
+use Rattle.b_stretches.proofs.enclosed.Goals as goal
 
 pub returns-then-is_word : goal.returns-then-is_word
 returns-then-is_word c =

@@ -1,7 +1,7 @@
 use Rattle.std.proofs.Common.{◌≡◌, suc, length, ap, arith}
-use Rattle.b_read_machine.specs.Stretches.{pieces}
-use Rattle.b_read_machine.proofs.Pieces.{within, scan_on}
-use Rattle.b_read_machine.proofs.stretch.cut.Goals as goal
+use Rattle.b_stretches.specs.Stretches.{pieces}
+use Rattle.b_stretches.proofs.Pieces.{within, scan_on}
+use Rattle.b_stretches.proofs.cut.Goals as goal
 
 pub depth_after-depth-requires : goal.depth_after-depth-requires
 depth_after-depth-requires c =

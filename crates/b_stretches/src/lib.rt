@@ -1,11 +1,30 @@
-//! Stretches of a text and where they are cut.
+//! Stretches of a machine's text and where they are cut.
+#![tactic(auto)]
+
 ghost use Rattle.std.specs.Prelude.{◌≡◌, ◌≤◌, ◌<◌, ◌^◌, ◌-◌, length, take};
 ghost use Rattle.b_machine_grammar.specs.Cuts.{depth_behind};
-ghost use Rattle.b_read_machine.specs.Stretches as spec;
+ghost use Rattle.b_stretches.specs.declared.Unread.TheVariants.{Memory};
+ghost use Rattle.b_stretches.specs.Stretches as spec;
 
-use crate::Unread;
 use b_grammar::Lexeme;
 use b_machine_grammar::words::{Separator, Word, closes, opens, separates};
+use std::alloc::AllocError;
+
+/// Why no tree was read.
+#[derive(Clone, Copy, Debug, PartialEq, Eq)]
+pub enum Unread {
+    /// The grammar has none. Reading stopped at this place of the text.
+    NoMachine(u64),
+    Memory,
+}
+
+impl From<AllocError> for Unread {
+    ghost from_gives = { λ _ e. e ≡ Memory };
+
+    fn from(_error: AllocError) -> Unread {
+        Unread::Memory
+    }
+}
 
 /// Lexemes with their words, and the place of what follows them.
 #[derive(Clone, Copy)]
@@ -190,6 +209,17 @@ pub fn cut_before<'a>(s: Stretch<'a>, word: Word) -> Split<'a>
     Split {
         front: cut.front,
         next: unless_last(cut.next),
+    }
+}
+
+/// What stands on both sides of the first such word outside brackets.
+pub fn halves<'a>(s: Stretch<'a>, word: Word) -> Result<(Stretch<'a>, Stretch<'a>), Unread>
+    ensures { spec.IsHalvedAs (spec.cut_at word (spec.pieces s.entry)) result }
+{
+    let cut = cut_at(s, word);
+    match cut.next {
+        None => Err(stuck_behind(s)),
+        Some((_, _, back)) => Ok((cut.front, back)),
     }
 }
 
