@@ -80,7 +80,7 @@ some_at [] k x e = absurd (none k e)
 some_at (y ∷ xs) zero x e = omega arith
 some_at (y ∷ xs) (suc k) x e = let h = some_at xs k x e in omega arith
 
-past_end : {X : Type 0} (xs : List X) (k : ℕ) → length xs ≤ k → slice_get xs k ≡ None
+pub past_end : {X : Type 0} (xs : List X) (k : ℕ) → length xs ≤ k → slice_get xs k ≡ None
 past_end [] zero h = refl
 past_end [] (suc k) h = refl
 past_end (x ∷ xs) zero h = absurd (omega arith)
@@ -132,7 +132,7 @@ taken_twice [] (suc k) (suc i) h = refl
 taken_twice (a ∷ ds) zero (suc i) h = absurd (omega arith)
 taken_twice (a ∷ ds) (suc k) (suc i) h = ap (λ (es : List Def). a ∷ es) (taken_twice ds k i (omega arith))
 
-params_of_insert : (means : Inserts) (ps : List (List ℕ)) (b : DefBody) → (insert_of means ps b).params ≡ ps
+pub params_of_insert : (means : Inserts) (ps : List (List ℕ)) (b : DefBody) → (insert_of means ps b).params ≡ ps
 params_of_insert means ps (body.Expr e) = refl
 params_of_insert means ps (body.Pred p) = refl
 params_of_insert means ps (body.Subst u) = refl

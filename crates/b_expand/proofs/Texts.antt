@@ -1,5 +1,5 @@
 -- Arguments of uses, and the scopes of texts.
-use Rattle.std.proofs.Common.{◌≡◌, ℕ, zero, suc, ◌+◌, ◌≤◌, Bool, true, false, List, [], ◌∷◌, map, length, get_or, Option, Some, None, refl, sym, ap, subst, ◌∙◌, ◌<◌, rules, arith}
+use Rattle.std.proofs.Common.{◌≡◌, ℕ, zero, suc, ◌+◌, ◌-◌, ◌≤◌, List, [], ◌∷◌, ◌++◌, map, take, length, get_or, Option, Some, None, refl, sym, ap, subst, ◌∙◌, ◌<◌, rules, arith}
 use Rattle.std.specs.Prelude.{IsSome, IfSome, IfOk, Result, slice_get, option_map, option_and_then, bytes_eq, position}
 use Rattle.b_ast.specs.declared.Place.{Place}
 use Rattle.b_ast.specs.declared.Formula.{Formula}
@@ -11,24 +11,20 @@ use Rattle.b_expand.specs.declared.standing.Arguments.{Arguments}
 use Rattle.b_expand.specs.Places.{brackets, deeper, deeper_place, raised_place, raised, moved, moved_after}
 use Rattle.b_expand.specs.Expansion as expansion
 use Rattle.b_expand.specs.Expansion.{Scope}
-use Rattle.b_expand.specs.Filling.{Part, Insert, Inserts, Filling, Form, Side, filling, form_of, side_of, sides, parts, total, form_total, or_none, used, used_steps, called_steps, named, row, applied, trees_of, forms, first_arguments, later_forms}
-use Rattle.b_expand.specs.Standing.{first_part, parts_in, body_of}
-use Rattle.b_expand.proofs.Moving.{deeper_twice, moved_row}
+use Rattle.b_expand.specs.Filling.{Part, Insert, Inserts, Filling, Form, Side, filling, form_of, side_of, sides, parts, total, form_total, or_none, used, used_steps, called_steps, named, row, applied, trees_of, forms, first_arguments, later_forms, insert_of, inserts, params_of, filled}
+use Rattle.b_expand.specs.Standing.{first_part, parts_in, body_of, means_at, params_at, insert_of_first, trees_at, steps_at}
+use Rattle.std.proofs.lemmas.List.{take_all}
+use Rattle.b_expand.proofs.Indexing.{past_end, insert_known, params_of_insert}
+use Rattle.b_expand.proofs.Moving.{deeper_twice, moved_row, not_raised}
 
 -- ---- what stands at a place
 
 -- at a place of a list that is made of another
-get_map : {X Y : Type 0} (f : X → Y) (xs : List X) (i : ℕ) → slice_get (map f xs) i ≡ option_map f (slice_get xs i)
+pub get_map : {X Y : Type 0} (f : X → Y) (xs : List X) (i : ℕ) → slice_get (map f xs) i ≡ option_map f (slice_get xs i)
 get_map f [] zero = refl
 get_map f [] (suc i) = refl
 get_map f (x ∷ xs) zero = refl
 get_map f (x ∷ xs) (suc i) = get_map f xs i
-
--- the first argument
-pub part_first : (means : Inserts) (o : Option Formula) (ls : List Link) (i : ℕ) → i ≡ 0 → option_map (λ e. (filling means e).part) o ≡ slice_get (first_part means o ls) i
-part_first means None ls zero h = refl
-part_first means (Some e) ls zero h = refl
-part_first means o ls (suc i) h = absurd (omega arith)
 
 -- an argument after the first
 pub part_later : (means : Inserts) (e : Formula) (ls : List Link) (i j : ℕ) → i ≡ 1 + j → slice_get (map (λ l. (side_of means l).operand) ls) j ≡ slice_get (first_part means (Some e) ls) i
@@ -44,23 +40,66 @@ part_later means e ls (suc i) j h = let same : j ≡ i = omega arith in ap (slic
 pub operand_at : (means : Inserts) (ls : List Link) (j : ℕ) (o : Option Link) → o ≡ slice_get ls j → option_map (λ l. (side_of means l).operand) o ≡ slice_get (map (λ l. (side_of means l).operand) ls) j
 operand_at means ls j o e = ap (option_map (λ l. (side_of means l).operand)) e ∙ sym (get_map (λ l. (side_of means l).operand) ls j)
 
--- without a first argument there is none
-pub part_none : (means : Inserts) (ls : List Link) (i : ℕ) → None ≡ slice_get (first_part means None ls) i
-part_none means ls zero = refl
-part_none means ls (suc i) = refl
+-- a number that is not zero follows one
+pub not_zero : (n : ℕ) → (n ≡ 0 → ⊥) → n ≡ 1 + (n - 1)
+not_zero zero e = absurd (e refl)
+not_zero (suc n) e = omega arith
+
+-- ---- lists that are made of lists
+
+-- one more of a list that is made of another
+pub one_more : {X Y : Type 0} (f : X → Y) (xs : List X) (i : ℕ) (x : X) → i < length xs → x ≡ get_or xs i x → map f (take i xs) ++ f x ∷ [] ≡ map f (take (suc i) xs)
+one_more f [] i x h e = absurd (omega arith)
+one_more {X} {Y} f (y ∷ xs) zero x h e = ap (λ (z : X). f z ∷ []) e
+one_more {X} {Y} f (y ∷ xs) (suc i) x h e = ap (λ (ys : List Y). f y ∷ ys) (one_more f xs i x (omega arith) e)
+
+-- lists that are made in three steps
+fused : {W X Y Z : Type 0} (f : Y → Z) (g : X → Y) (h : W → X) (ws : List W) → map f (map g (map h ws)) ≡ map (λ w. f (g (h w))) ws
+fused f g h [] = refl
+fused {W} {X} {Y} {Z} f g h (w ∷ ws) = ap (λ (zs : List Z). f (g (h w)) ∷ zs) (fused f g h ws)
+
+-- one more part of a list that is made in three steps
+pub next_part : {W X Y Z : Type 0} (f : Y → Z) (g : X → Y) (h : W → X) (ws : List W) (i : ℕ) (w : W) → i < length ws → w ≡ get_or ws i w
+    → (zs : List Z) → zs ≡ map f (map g (map h (take i ws))) → (z : Z) → z ≡ f (g (h w)) → (new : List Z) → new ≡ zs ++ z ∷ [] → new ≡ map f (map g (map h (take (i + 1) ws)))
+next_part {W} {X} {Y} {Z} f g h ws i w k e zs so z is new n =
+    let on : suc i ≡ i + 1 = omega arith in
+    n
+    ∙ (ap (λ (zs : List Z). zs ++ z ∷ []) (so ∙ fused f g h (take i ws))
+    ∙ (ap (λ (z : Z). map (λ w. f (g (h w))) (take i ws) ++ z ∷ []) is
+    ∙ (one_more (λ w. f (g (h w))) ws i w k e ∙ (sym (fused f g h (take (suc i) ws)) ∙ ap (λ (n : ℕ). map f (map g (map h (take n ws)))) on))))
 
 -- ---- the arguments for parameters
 
--- the tree for a parameter
-pub tree_there : (ps : List (List ℕ)) (args : List Part) (s : Scope) (x : List ℕ) (i : ℕ) → Some i ≡ position (bytes_eq x) ps → (o : Option Part) → o ≡ slice_get args i → option_map (λ a. a.tree s) o ≡ option_and_then (slice_get (trees_of args s)) (position (bytes_eq x) ps)
-tree_there ps args s x i p o e =
-    ap (option_map (λ (a : Part). a.tree s)) e ∙ (sym (get_map (λ (a : Part). a.tree s) args i) ∙ ap (option_and_then (slice_get (trees_of args s))) p)
+-- the tree of an argument is that for its parameter
+pub tree_from : (ds : List Def) (f g : Frame) (gs fs : List Frame) → fs ≡ g ∷ gs → (i : ℕ) (o : Option Part) → o ≡ slice_get (parts_in (means_at ds g.place) f.arguments) i
+    → option_map (λ a. a.tree (record { round = g.round; params = params_at ds g.place; trees = trees_at ds g gs })) o ≡ slice_get (trees_at ds f fs) i
+tree_from ds f g gs fs q i o e =
+    ap (option_map (λ (a : Part). a.tree (record { round = g.round; params = params_at ds g.place; trees = trees_at ds g gs }))) e
+    ∙ (sym (get_map (λ (a : Part). a.tree (record { round = g.round; params = params_at ds g.place; trees = trees_at ds g gs })) (parts_in (means_at ds g.place) f.arguments) i)
+    ∙ ap (λ (fs : List Frame). slice_get (trees_at ds f fs) i) (sym q))
 
--- its steps
-pub steps_there : (ps : List (List ℕ)) (args : List Part) (qs : List (List ℕ)) (ns : List ℕ) (x : List ℕ) (i : ℕ) → Some i ≡ position (bytes_eq x) ps → (o : Option Part) → o ≡ slice_get args i
-    → option_map (λ a. a.steps qs ns) o ≡ option_and_then (slice_get (map (λ a. a.steps qs ns) args)) (position (bytes_eq x) ps)
-steps_there ps args qs ns x i p o e =
-    ap (option_map (λ (a : Part). a.steps qs ns)) e ∙ (sym (get_map (λ (a : Part). a.steps qs ns) args i) ∙ ap (option_and_then (slice_get (map (λ (a : Part). a.steps qs ns) args))) p)
+-- and so are its steps
+pub steps_from : (ds : List Def) (f g : Frame) (gs fs : List Frame) → fs ≡ g ∷ gs → (i : ℕ) (o : Option Part) → o ≡ slice_get (parts_in (means_at ds g.place) f.arguments) i
+    → option_map (λ a. a.steps (params_at ds g.place) (steps_at ds g gs)) o ≡ slice_get (steps_at ds f fs) i
+steps_from ds f g gs fs q i o e =
+    ap (option_map (λ (a : Part). a.steps (params_at ds g.place) (steps_at ds g gs))) e
+    ∙ (sym (get_map (λ (a : Part). a.steps (params_at ds g.place) (steps_at ds g gs)) (parts_in (means_at ds g.place) f.arguments) i)
+    ∙ ap (λ (fs : List Frame). slice_get (steps_at ds f fs) i) (sym q))
+
+-- a text outside has no arguments
+pub none_from : (ds : List Def) (f : Frame) (fs : List Frame) → length fs ≡ 0 → (i : ℕ) → None ≡ slice_get (trees_at ds f fs) i
+none_from ds f [] h zero = refl
+none_from ds f [] h (suc i) = refl
+none_from ds f (g ∷ gs) h i = absurd (omega arith)
+
+-- ---- a formula outside
+
+-- what a formula outside becomes is the formula with its definitions put in
+pub at_top : (ds : List Def) (t : Formula) → moved (raised_place None) ((filling (means_at ds (length ds)) t).part.tree (record { round = 0; params = params_at ds (length ds); trees = [] })) ≡ filled ds t
+at_top ds t =
+    not_raised ((filling (means_at ds (length ds)) t).part.tree (record { round = 0; params = params_at ds (length ds); trees = [] }))
+    ∙ (ap (λ (es : List Def). (filling (inserts es) t).part.tree (record { round = 0; params = params_at ds (length ds); trees = [] })) (take_all (length ds) ds (omega arith))
+    ∙ ap (λ (o : Option Def). (filling (inserts ds) t).part.tree (record { round = 0; params = params_of o; trees = [] })) (past_end ds (length ds) (omega arith)))
 
 -- ---- uses
 
@@ -78,6 +117,23 @@ raised_named o m s at x found e f res h =
 pub named_use : (m w : Option Insert) → IsSome m → m ≡ w → (o : Option Formula) → o ≡ None → (s : Scope) (at : Place) (x : List ℕ) → body_of m (brackets (brackets s.round at.depth) 1) [] ≡ named w o s at x
 named_use None w k e o n s at x = absurd (search rules)
 named_use (Some m) w k e o n s at x = ap (λ (w : Option Insert). named w None s at x) e ∙ ap (λ (o : Option Formula). named w o s at x) (sym n)
+
+-- the steps of a use are those of the body
+pub use_steps : (ds : List Def) (g f : Frame) (gs fs : List Frame) (i : ℕ) (d : Def) → Some d ≡ slice_get ds i → IsSome (insert_of_first (take g.place ds) i) → fs ≡ g ∷ gs
+    → used_steps (insert_of_first (take g.place ds) i) (map (λ p. p.steps (params_at ds g.place) (steps_at ds g gs)) (parts_in (means_at ds g.place) f.arguments)) ≡ (insert_of (means_at ds i) (params_at ds i) d.body).steps (steps_at ds f fs)
+use_steps ds g f gs fs i d at there q =
+    ap (λ (m : Option Insert). used_steps m (steps_at ds f (g ∷ gs))) (insert_known ds g.place i d at there)
+    ∙ ap (λ (fs : List Frame). (insert_of (means_at ds i) (params_at ds i) d.body).steps (steps_at ds f fs)) (sym q)
+
+-- the tree of a use is that of the body
+pub use_tree : (ds : List Def) (g f : Frame) (gs fs : List Frame) (i : ℕ) (d : Def) → Some d ≡ slice_get ds i → IsSome (insert_of_first (take g.place ds) i) → fs ≡ g ∷ gs → (round here : ℕ) → here ≡ round
+    → (insert_of (means_at ds i) (params_at ds i) d.body).body (record { round = here; params = params_at ds i; trees = trees_at ds f fs })
+    ≡ body_of (insert_of_first (take g.place ds) i) round (trees_of (parts_in (means_at ds g.place) f.arguments) (record { round = g.round; params = params_at ds g.place; trees = trees_at ds g gs }))
+use_tree ds g f gs fs i d at there q round here r =
+    ap (λ (n : ℕ). (insert_of (means_at ds i) (params_at ds i) d.body).body (record { round = n; params = params_at ds i; trees = trees_at ds f fs })) r
+    ∙ (ap (λ (fs : List Frame). (insert_of (means_at ds i) (params_at ds i) d.body).body (record { round = round; params = params_at ds i; trees = trees_at ds f fs })) q
+    ∙ (ap (λ (ps : List (List ℕ)). (insert_of (means_at ds i) (params_at ds i) d.body).body (record { round = round; params = ps; trees = trees_at ds f (g ∷ gs) })) (sym (params_of_insert (means_at ds i) (params_at ds i) d.body))
+    ∙ ap (λ (m : Option Insert). body_of m round (trees_at ds f (g ∷ gs))) (sym (insert_known ds g.place i d at there))))
 
 -- a row whose head means a definition, and which begins with arguments
 called_tree : (m : Option Insert) → IsSome m → (depth : ℕ) (r : Filling) (fs gs : List Form) (args : List Part) (s : Scope) → first_arguments fs ≡ Some args → gs ≡ later_forms fs

@@ -86,8 +86,11 @@ abbrev pub steps_at : List Def → Frame → List Frame → List ℕ
 steps_at ds f [] = []
 steps_at ds f (g ∷ gs) = map (λ a. a.steps (params_at ds g.place) (steps_at ds g gs)) (parts_in (means_at ds g.place) f.arguments)
 
+abbrev pub trees_in_scope : Standing → List Formula
+trees_in_scope t = trees_at t.table.defs.now t.here t.callers.now
+
 abbrev pub scope_of : Standing → Scope
-scope_of t = record { round = t.here.round; params = params_in t; trees = trees_at t.table.defs.now t.here t.callers.now }
+scope_of t = record { round = t.here.round; params = params_in t; trees = trees_in_scope t }
 
 abbrev pub argument_steps_in : Standing → List ℕ
 argument_steps_in t = steps_at t.table.defs.now t.here t.callers.now

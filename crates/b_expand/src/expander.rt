@@ -110,7 +110,6 @@ fn fill_part(
 }
 
 #[cycle(fill)]
-#[tactic(auto, using(crate::proofs::Texts::part_of_total))]
 fn fill_all(
     trees: &[Formula],
     alloc: Global,
@@ -121,20 +120,21 @@ fn fill_all(
 {
     let mut filled = Items::new(alloc);
     for tree in trees {
-        filled.push(fill(tree, alloc, text)?)?;
+        let part = fill(tree, alloc, text)?;
+        filled.push(part)?;
     }
     Ok(filled)
 }
 
 #[cycle(fill)]
-#[tactic(auto, using(crate::proofs::Texts::link_of_total))]
 fn fill_links(links: &[Link], alloc: Global, text: &Standing<'_>) -> Result<Items<Link>, AllocError>
     requires { IsReady text.now.table }
     ensures { IfOk result (λ ls. ls ≡ links_in text.now links.now) }
 {
     let mut filled = Items::new(alloc);
     for link in links {
-        filled.push(fill_link(link, alloc, text)?)?;
+        let part = fill_link(link, alloc, text)?;
+        filled.push(part)?;
     }
     Ok(filled)
 }
@@ -152,7 +152,6 @@ fn fill_link(link: &Link, alloc: Global, text: &Standing<'_>) -> Result<Link, Al
 }
 
 #[cycle(fill)]
-#[tactic(auto, using(crate::proofs::Texts::form_of_total))]
 fn fill_forms(
     forms: &[After],
     alloc: Global,
@@ -163,7 +162,8 @@ fn fill_forms(
 {
     let mut filled = Items::new(alloc);
     for form in forms {
-        filled.push(fill_form(form, alloc, text)?)?;
+        let part = fill_form(form, alloc, text)?;
+        filled.push(part)?;
     }
     Ok(filled)
 }
@@ -266,7 +266,7 @@ fn fill_use(
 ) -> Result<Formula, AllocError>
     requires ready { IsReady text.now.table }
     requires known { IsSome (insert_at text.now i) }
-    ensures { IfOk result (λ e. e ≡ raise text.now (used_in text.now i depth arguments)) }
+    ensures { IfOk result (λ e. e ≡ raise text.now (used_in text.now i depth arguments.entry)) }
 {
     match sqlite_items::at(text.table.defs, i) {
         Some(def) => {

@@ -4,7 +4,7 @@ ghost use Rattle.std.specs.Option.{option_copied};
 ghost use Rattle.std.specs.List.{list_all};
 ghost use Rattle.b_expand.specs.Expansion.{tree_of};
 ghost use Rattle.b_expand.specs.Filling as spec;
-ghost use Rattle.b_expand.specs.Standing.{until, IsIndexed, IsReady, params_at, params_in, means_in, insert_at, filling_in, form_in, side_in, called_in, parts_in, scope_of, argument_steps_in, tree_in, steps_in, steps_of_forms};
+ghost use Rattle.b_expand.specs.Standing.{until, IsIndexed, IsReady, params_at, params_in, means_in, insert_at, filling_in, form_in, side_in, called_in, parts_in, scope_of, trees_in_scope, argument_steps_in, tree_in, steps_in, steps_of_forms};
 
 use crate::parts::is_comma;
 use crate::standing::{Arguments, Frame, Standing, Table};
@@ -176,6 +176,12 @@ pub fn application<'a>(
     }
 }
 
+fn operand_of<'a>(link: &'a Link) -> &'a Formula
+    ensures { (means : spec.Inserts) → (spec.filling means result.now).part ≡ (spec.side_of means link.now).operand }
+{
+    &link.operand
+}
+
 // The argument at a place.
 fn argument_at<'a>(arguments: &Arguments<'a>, place: usize) -> Option<&'a Formula>
     ensures { (means : spec.Inserts) → option_map (λ e. (spec.filling means e).part) (option_copied result) ≡ slice_get (parts_in means arguments.now) place }
@@ -185,7 +191,36 @@ fn argument_at<'a>(arguments: &Arguments<'a>, place: usize) -> Option<&'a Formul
     }
     match arguments.first {
         Some(_) => match sqlite_items::at(arguments.others, place - 1) {
-            Some(link) => Some(&link.operand),
+            Some(link) => Some(operand_of(link)),
+            None => None,
+        },
+        None => None,
+    }
+}
+
+// The argument at a place, in the text where it stands, under so many brackets more.
+fn argument_from<'a>(
+    text: &Standing<'a>,
+    place: usize,
+    extra: u64,
+) -> Option<(&'a Formula, Standing<'a>)>
+    requires { IsReady text.now.table }
+    ensures tree { MatchOption result (None ≡ slice_get (trees_in_scope text.now) place) (λ r. Some (tree_in r.1 r.0.now) ≡ slice_get (trees_in_scope text.now) place) }
+    ensures steps { IfSome result (λ r. Some (steps_in r.1 r.0.now) ≡ slice_get (argument_steps_in text.now) place) }
+    ensures ready { IfSome result (λ r. IsReady r.1.table) }
+    ensures extra { IfSome result (λ r. r.1.extra ≡ Some extra) }
+{
+    match text.callers.split_first() {
+        Some((caller, callers)) => match argument_at(&text.here.arguments, place) {
+            Some(tree) => {
+                let standing = Standing {
+                    table: text.table,
+                    here: *caller,
+                    callers,
+                    extra: Some(extra),
+                };
+                Some((tree, standing))
+            }
             None => None,
         },
         None => None,
@@ -199,19 +234,13 @@ pub fn argument_of<'a>(
     extra: u64,
 ) -> Option<(&'a Formula, Standing<'a>)>
     requires { IsReady text.now.table }
-    ensures tree { MatchOption result (tree_of (scope_of text.now) name.now ≡ None) (λ r. tree_of (scope_of text.now) name.now ≡ Some (tree_in r.1 r.0.now)) }
-    ensures steps { IfSome result (λ r. steps_in r.1 r.0.now ≤ spec.argument_steps (params_in text.now) (argument_steps_in text.now) name.now) }
-    ensures table { IfSome result (λ r. r.1.table ≡ text.now.table) }
+    ensures tree { MatchOption result (None ≡ tree_of (scope_of text.now) name.now) (λ r. Some (tree_in r.1 r.0.now) ≡ tree_of (scope_of text.now) name.now) }
+    ensures steps { IfSome result (λ r. steps_in r.1 r.0.now ≡ spec.argument_steps (params_in text.now) (argument_steps_in text.now) name.now) }
+    ensures ready { IfSome result (λ r. IsReady r.1.table) }
     ensures extra { IfSome result (λ r. r.1.extra ≡ Some extra) }
 {
-    let place = place_of(&text.table, text.here.place, name)?;
-    let (caller, callers) = text.callers.split_first()?;
-    let tree = argument_at(&text.here.arguments, place)?;
-    let standing = Standing {
-        table: text.table,
-        here: *caller,
-        callers,
-        extra: Some(extra),
-    };
-    Some((tree, standing))
+    match place_of(&text.table, text.here.place, name) {
+        Some(place) => argument_from(text, place, extra),
+        None => None,
+    }
 }

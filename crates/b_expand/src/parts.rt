@@ -71,7 +71,7 @@ pub fn pushed<'a>(
     first: Frame<'a>,
     rest: &[Frame<'a>],
 ) -> Result<Items<Frame<'a>>, AllocError>
-    ensures { IfOk result (λ fs. fs ≡ first ∷ rest.now) }
+    ensures { IfOk result (λ fs. fs ≡ first.entry ∷ rest.now) }
 {
     let mut frames = Items::new(alloc);
     frames.push(first)?;

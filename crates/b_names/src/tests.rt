@@ -38,26 +38,3 @@ fn finds_first_definitions(rt: HostRuntime) -> Result<(), Fail> {
     assert_eq!(rt; index.first(b""), None);
     Ok(())
 }
-
-#[test]
-fn finds_first_parameters(rt: HostRuntime) -> Result<(), Fail> {
-    let alloc = rt.alloc();
-    let mut def = definition(alloc, b"one", 1)?;
-    def.params.push(Items::from_slice(alloc, b"x")?)?;
-    def.params.push(Items::from_slice(alloc, b"y")?)?;
-    def.params.push(Items::from_slice(alloc, b"x")?)?;
-    let mut defs = Items::new(alloc);
-    defs.push(def)?;
-    let index = table_index(alloc, defs.as_slice())?;
-    assert_eq!(rt; index.definitions.first(b"one"), Some(0));
-    let found = match index.parameters.get(0) {
-        Some(parameters) => (
-            parameters.first(b"x"),
-            parameters.first(b"y"),
-            parameters.first(b"z"),
-        ),
-        None => (None, None, None),
-    };
-    assert_eq!(rt; found, (Some(0), Some(1), None));
-    Ok(())
-}

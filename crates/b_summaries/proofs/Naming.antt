@@ -2,7 +2,9 @@
 use borrow.Author.Tests.{ltb-false, ltb-true}
 use Rattle.std.proofs.Common.{◌≡◌, ℕ, zero, suc, ◌+◌, ◌++◌, ◌<◌, ◌≤◌, ◌⊎◌, inl, inr, Bool, true, false, not, cond, List, [], ◌∷◌, take, length, get_or, fold, rules, Option, Some, None, refl, sym, ap, ◌∙◌, subst, arith}
 use Rattle.std.specs.Prelude.{IsSome, IfSome, IfOk, Result, slice_get, option_map, option_and_then, bytes_eq, position, nat_lt, min}
+use Rattle.std.specs.Option.{option_copied}
 use Rattle.std.specs.List.{position_or_len, prefix_len}
+use denote.Ref.{Bor}
 use Rattle.b_ast.specs.declared.machine.Def.{Def}
 use Rattle.b_expand.specs.Expansion.{all_of}
 use Rattle.b_summaries.specs.declared.summary.Summary.{Summary}
@@ -280,13 +282,19 @@ parameters_known table index h k d at ps same o e =
     parameters_at ps k o e d (λ i f. of_this table k d at i (h.parameters k i (sym (ap (λ (ps : List Index). slice_get ps k) same) ∙ f))) (omega arith)
 
 -- the index of a text's parameters
-pub places_known : (params : List (List ℕ)) (i : Index) → ArePlaces params (Some i) → IsIndexOfNames params i
+index_known : (params : List (List ℕ)) (i : Index) → ArePlaces params (Some i) → IsIndexOfNames params i
 unfolding ArePlaces
-places_known params i h = h
+index_known params i h = h
 
-pub no_places : (params : List (List ℕ)) (x : List ℕ) → ArePlaces params None → None ≡ place_of params x
+pub places_known : (params : List (List ℕ)) (o : Option (Bor Index)) (i : Bor Index) → o ≡ Some i → ArePlaces params (option_copied o) → IsIndexOfNames params i.now
+places_known params o i e h = index_known params i.now (subst (λ (o : Option (Bor Index)). ArePlaces params (option_copied o)) e h)
+
+none_known : (params : List (List ℕ)) (x : List ℕ) → ArePlaces params None → None ≡ place_of params x
 unfolding ArePlaces
-no_places params x h = ap (λ (ps : List (List ℕ)). place_of ps x) (sym h)
+none_known params x h = ap (λ (ps : List (List ℕ)). place_of ps x) (sym h)
+
+pub no_places : (params : List (List ℕ)) (o : Option (Bor Index)) → o ≡ None → (x : List ℕ) → ArePlaces params (option_copied o) → None ≡ place_of params x
+no_places params o e x h = none_known params x (subst (λ (o : Option (Bor Index)). ArePlaces params (option_copied o)) e h)
 
 -- a text without parameters has none
 pub none_placed : ArePlaces [] None

@@ -3,8 +3,7 @@ use b_ast::machine::{Def, DefBody, DefTable, Subst};
 use b_ast::{Expr, Formula, FormulaText, Operator, Place, Pred, Sort};
 use b_expand::places::refused_at;
 use b_expand::{
-    ParseFault, ParseKind, Unexpanded, Unfit, brackets, deeper_place, expanded, expanded_operator,
-    is_comma,
+    ParseFault, ParseKind, Unexpanded, Unfit, brackets, deeper_place, expanded_operator, is_comma,
 };
 use b_lex::lex;
 use b_names::index_of;
@@ -458,16 +457,10 @@ fn made_once(rt: HostRuntime) -> Result<(), Fail> {
     Ok(())
 }
 
-fn put_in(alloc: Global) -> Result<Vec<u8>, Fail> {
-    let (defs, formula) = product(alloc)?;
-    let formula = expanded(alloc, &defs, &formula)?;
-    Ok(print_expr(alloc, &Expr { formula })?)
-}
-
 fn put_in_within_limits(alloc: Global) -> Result<Vec<u8>, Fail> {
     let (defs, formula) = product(alloc)?;
     let made = definitions_of(alloc, &defs)?;
-    match expand(alloc, &made, &formula) {
+    match expand(alloc, &made, formula) {
         Ok(FormulaText::Expr(e)) => Ok(print_expr(alloc, &e)?),
         _ => Err(Fail::from("no expression")),
     }
@@ -477,7 +470,6 @@ fn put_in_within_limits(alloc: Global) -> Result<Vec<u8>, Fail> {
 #[test]
 fn expands(rt: HostRuntime) -> Result<(), Fail> {
     let wanted = "(1 + 2) * 1".as_bytes();
-    assert!(rt; put_in(rt.alloc())?.as_slice() == wanted);
     assert!(rt; put_in_within_limits(rt.alloc())?.as_slice() == wanted);
     Ok(())
 }
@@ -513,7 +505,7 @@ fn is_unknown(alloc: Global) -> Result<bool, Fail> {
 fn refused_there(alloc: Global) -> Result<Option<u64>, Fail> {
     let (defs, formula) = wrong_sum(alloc)?;
     let made = definitions_of(alloc, &defs)?;
-    match expand(alloc, &made, &formula) {
+    match expand(alloc, &made, formula) {
         Err(Unexpanded::Refused(Unfit::NotASentence, at)) => Ok(Some(at)),
         _ => Ok(None),
     }

@@ -8,9 +8,9 @@ pub returns-in-Err-verdict : goal.returns-in-Err-verdict
 returns-in-Err-verdict c = answers_refused c.args.defs.now.table.now.defs c.args.formula c.in-Ok.facts c.in-Ok.ensures c.in-Err-verdict.why c.in-Err-verdict.ensures
 
 -- where there is a verdict, there is an expanded tree
-pub built-requires-there : goal.built-requires-there
-built-requires-there c = is_there c.args.defs.now.table.now.defs c.args.formula c.in-Ok.facts c.in-Ok.ensures c.in-Ok-verdict.sort c.in-Ok-verdict.ensures
+pub built-requires-clause-there : goal.built-requires-clause-there
+built-requires-clause-there c = is_there c.args.defs.now.table.now.defs c.args.formula c.in-Ok.facts c.in-Ok.ensures c.in-Ok-verdict.sort c.in-Ok-verdict.ensures
 
 -- which is as deep as a text may be
-pub built-requires-shallow : goal.built-requires-shallow
-built-requires-shallow c = is_shallow c.args.defs.now.table.now.defs c.args.formula c.in-Ok.facts c.in-Ok.ensures c.in-Ok-verdict.sort c.in-Ok-verdict.ensures
+pub built-requires-clause-shallow : goal.built-requires-clause-shallow
+built-requires-clause-shallow c = is_shallow c.args.defs.now.table.now.defs c.args.formula c.in-Ok.facts c.in-Ok.ensures c.in-Ok-verdict.sort c.in-Ok-verdict.ensures

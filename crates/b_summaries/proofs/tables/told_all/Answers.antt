@@ -22,12 +22,12 @@ loop-def-preserved c =
           (told_more c.args.table.now c.loop-def.known c.loop-def.invariant.told c.def-item.result
           (ap (slice_get c.args.table.now) c.loop-def.invariant.many ∙ get_there c.args.table.now c.loop-def.def-index c.def-item.result c.loop-def-test.true c.def-item.is) c.in_ok-told.told
           (c.in_ok-told.ensures
-          ∙ ap (λ (ks : List (Option Told)). told_body c.args.table.now c.def-item.result.params (meanings c.args.table.now (take (length ks) c.args.table.now)) c.def-item.result.body) c.as_slice.ensures));
+          ∙ ap (λ (ks : List (Option Told)). told_body c.args.table.now c.def-item.result.params (meanings c.args.table.now (take (length ks) c.args.table.now)) c.def-item.result.body) c.as_slice-in-loop-def.ensures));
       many = omega arith;
     }
 
 -- each text has the index of its parameters
-pub told_next-requires-places : goal.told_next-requires-places
-told_next-requires-places c =
+pub told_next-requires-clause-places : goal.told_next-requires-clause-places
+told_next-requires-clause-places c =
     parameters_known c.args.table.now c.args.index.now c.requires (length c.loop-def.known) c.def-item.result
-    (ap (slice_get c.args.table.now) c.loop-def.invariant.many ∙ get_there c.args.table.now c.loop-def.def-index c.def-item.result c.loop-def-test.true c.def-item.is) c.as_slice.result.now c.as_slice.ensures (option_copied c.at-places.result) c.at-places.ensures
+    (ap (slice_get c.args.table.now) c.loop-def.invariant.many ∙ get_there c.args.table.now c.loop-def.def-index c.def-item.result c.loop-def-test.true c.def-item.is) c.as_slice.result.now c.as_slice.ensures (option_copied c.at-places.result) (c.at-places.ensures ∙ ap (slice_get c.as_slice.result.now) c.len.ensures)
