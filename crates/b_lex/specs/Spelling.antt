@@ -1,5 +1,5 @@
 -- How tokens are spelled, and what a string stands for.
-use Rattle.std.specs.Prelude.{◌≡◌, ℕ, Bool, true, false, ◌&&◌, ◌-◌, ◌^◌, ◌<◌, ◌≤◌, List, [], ◌∷◌, ◌++◌, length, take, drop, unwrap_or, if◌then◌else◌, ◌==◌}
+use Rattle.std.specs.Prelude.{◌≡◌, ℕ, Bool, true, false, not, ◌&&◌, ◌-◌, ◌^◌, ◌<◌, ◌≤◌, List, [], ◌∷◌, ◌++◌, length, take, drop, unwrap_or, if◌then◌else◌, ◌==◌}
 use Rattle.std.specs.List.{list_all, AllByRecursion}
 use Rattle.b_lex.specs.declared.tokens.Token.{Token}
 use Rattle.b_lex.specs.declared.tokens.TokenKind.{TokenKind}
@@ -13,6 +13,10 @@ use Rattle.b_lex.specs.Reading.{spelling}
 abbrev pub is_identifier : List ℕ → Bool
 is_identifier [] = false
 is_identifier (b ∷ bytes) = is_letter b && list_all is_name_byte bytes
+
+-- a name: an identifier that is no reserved word
+abbrev pub is_name : List ℕ → Bool
+is_name bytes = is_identifier bytes && not (is_reserved bytes)
 
 -- one or more digits
 abbrev pub are_digits : List ℕ → Bool

@@ -1,7 +1,8 @@
 //! What stands at the front of a text, but for strings.
 ghost use Rattle.std.specs.Prelude.{◌≡◌, ◌≤◌, ◌+◌, ◌^◌, ◌-◌, length, IfSome};
-ghost use Rattle.std.specs.List.{prefix_len, take_while};
-ghost use Rattle.b_lex.specs.Bytes.{is_space, is_letter, is_digit, is_name_byte, is_in_line, before_close};
+ghost use Rattle.std.specs.List.{list_all, prefix_len, take_while};
+ghost use Rattle.b_lex.specs.Bytes.{is_space, is_blank, is_letter, is_digit, is_name_byte, is_in_line, before_close};
+ghost use Rattle.b_lex.specs.Spelling.{is_name};
 ghost use Rattle.b_lex.specs.Tables.{longest, signs};
 ghost use Rattle.b_lex.specs.Fronts.{word_front, number_front, comment_front, sign_front, front_of};
 
@@ -22,16 +23,41 @@ fn letter(b: u8) -> bool
     b >= b'A' && b <= b'Z' || b >= b'a' && b <= b'z'
 }
 
-fn digit(b: u8) -> bool
+/// Whether this is one of the digits `0` to `9`.
+pub fn is_digit(b: u8) -> bool
     ensures { result ≡ is_digit b }
 {
     b >= b'0' && b <= b'9'
 }
 
-fn name_byte(b: u8) -> bool
+/// Whether this is a letter, a digit or `_`.
+pub fn is_name_byte(b: u8) -> bool
     ensures { result ≡ is_name_byte b }
 {
-    letter(b) || digit(b) || b == b'_'
+    letter(b) || is_digit(b) || b == b'_'
+}
+
+/// Whether this is a space or a tab, which separate within a line.
+pub fn is_blank(b: u8) -> bool
+    ensures { result ≡ is_blank b }
+{
+    b == b' ' || b == b'\t'
+}
+
+fn name_bytes(bytes: &[u8]) -> bool
+    ensures { result ≡ list_all is_name_byte bytes.now }
+{
+    bytes.iter().all(|b| is_name_byte(*b))
+}
+
+/// Whether this is a name of B: a letter, then letters, digits and `_`, and no reserved word.
+pub fn is_name(word: &[u8]) -> bool
+    ensures { result ≡ is_name word.now }
+{
+    match word {
+        [] => false,
+        [first, behind @ ..] => { letter(*first) && name_bytes(behind) && !reserved_word(word) }
+    }
 }
 
 fn in_line(b: u8) -> bool
@@ -43,13 +69,13 @@ fn in_line(b: u8) -> bool
 fn name_len(text: &[u8]) -> usize
     ensures { result ≡ prefix_len is_name_byte text.now }
 {
-    text.iter().take_while(|b| name_byte(**b)).count()
+    text.iter().take_while(|b| is_name_byte(**b)).count()
 }
 
 fn digits_len(text: &[u8]) -> usize
     ensures { result ≡ prefix_len is_digit text.now }
 {
-    text.iter().take_while(|b| digit(**b)).count()
+    text.iter().take_while(|b| is_digit(**b)).count()
 }
 
 fn line_len(text: &[u8]) -> usize
@@ -136,7 +162,7 @@ pub(crate) fn plain_front(text: &[u8]) -> Front
                 Front::Skip(1)
             } else if letter(*b) {
                 word_at(text)
-            } else if digit(*b) {
+            } else if is_digit(*b) {
                 number_at(text)
             } else {
                 sign_at(text)
