@@ -1,0 +1,79 @@
+-- Sessions of a lift, worked by hand: the definitions give their replies.
+use Rattle.std.specs.Prelude.{◌≡◌, ℕ, pos, ℤ, Bool, true, false, List, [], ◌∷◌, ◌++◌, Option, Some, None, Result, Ok, Err, slice_get, codes, if◌then◌else◌, int_lt, ◌+ℤ◌, ◌-ℤ◌, refl}
+use Rattle.std.specs.List.{repeat}
+use Rattle.b_values.specs.Preferences.{default_prefs}
+use Rattle.b_values.specs.declared.types.Face.{Face}
+use Rattle.b_values.specs.declared.types.Ty.TheVariants as ty
+use Rattle.b_values.specs.declared.types.OpId.{OpId}
+use Rattle.b_values.specs.declared.types.OpId.TheVariants as op
+use Rattle.b_values.specs.declared.values.State.{State}
+use Rattle.b_values.specs.declared.values.State.TheVariants.{Root, Constants, Running}
+use Rattle.b_values.specs.declared.values.Value.TheVariants.{Int}
+use Rattle.engine_face.specs.Meaning.{Meaning}
+use Rattle.engine_face.specs.declared.answers.Step.{Step}
+use Rattle.engine_face.specs.declared.answers.OpList.{OpList}
+use Rattle.engine_face.specs.declared.answers.StepList.{StepList}
+use Rattle.engine_face.specs.declared.answers.ListEnd.TheVariants.{Complete}
+use Rattle.engine_face.specs.declared.answers.ValueAnswer.TheVariants as answer
+use Rattle.engine_face.specs.declared.answers.Found.TheVariants as found
+use Rattle.engine_face.specs.declared.answers.Confirmed.TheVariants as confirmed
+use Rattle.engine_face.specs.declared.keys.LoadKind.TheVariants as load
+use Rattle.host_io.specs.Outside.{Absent}
+use Rattle.animator.specs.Sessions.{fresh}
+use Rattle.animator.specs.Commands.{Setting}
+use Rattle.animator.specs.Counted.{counted_lines}
+use Rattle.animator.specs.History.{Befell, history}
+use Rattle.animator.specs.Animated.{texts}
+
+-- a lift with two floors above the lowest
+abbrev pub lift_face : Face
+lift_face = record {
+  name = codes "Lift"; sets = []; constants = []; variables = record { name = codes "fl"; ty = ty.Int } ∷ [];
+  ops = record { name = codes "up"; params = []; results = [] } ∷ record { name = codes "down"; params = []; results = [] } ∷ [];
+  prefs = default_prefs;
+}
+
+abbrev pub floor : ℤ → State
+floor n = Running [] (Int n ∷ [])
+
+abbrev pub step_to : OpId → State → Step State
+step_to op state = record { op = op; params = []; results = []; dest = state }
+
+abbrev pub list_to : OpId → List (Step State) → OpList State
+list_to op steps = record { op = op; steps = steps; end = Complete }
+
+-- the lowest floor offers the way up alone, the others both
+abbrev pub lift_lists : State → StepList State
+lift_lists Root = record { lists = list_to op.Init (step_to op.Init (floor (pos 0)) ∷ []) ∷ [] }
+lift_lists (Constants cs) = record { lists = [] }
+lift_lists (Running cs vs) = record { lists = list_to (op.Op 0) (step_to (op.Op 0) (floor (pos 1)) ∷ []) ∷ list_to (op.Op 1) [] ∷ [] }
+
+abbrev pub lift : Setting
+lift = record {
+  meaning = record {
+    face = lift_face; root = Root; expand = lift_lists; value = λ state key. answer.NotInitialised; find = λ state op preds. found.Nothing;
+    confirm = λ state saved. confirmed.NotAStep; read_formula = λ scope text. Err load.NotASentence; canonical = λ key. [];
+  };
+  items = []; events = []; written = λ steps. []; migrated = λ steps. []; entries = λ bytes. None;
+}
+
+abbrev pub unmarked : Befell
+unmarked = record { marked = false; failed = 0; gave = None }
+
+abbrev pub lift_names : List State
+lift_names = Root ∷ floor (pos 0) ∷ floor (pos 1) ∷ []
+
+-- what a session of the lift writes to so many lines
+abbrev pub lift_text : ℕ → List ℕ → List ℕ
+lift_text lines bytes = texts lift lift_names (history lift (slice_get lift_names) (fresh Root) (λ name. Absent) (repeat lines (unmarked ∷ [])) (counted_lines bytes))
+
+pub empty_session : lift_text 0 [] ≡ []
+empty_session = refl
+
+pub moves_at_root : lift_text 6 (codes "back\nforward\njump 1\njump 0\ntrace\r\ninfo")
+    ≡ codes "error E9 at-start\nerror E10 at-end\nerror E11 no-position\nstate 0\nok\nposition 0 of 0\nok\nmachine Lift\nstate 0\nposition 0 of 0\nok\n"
+moves_at_root = refl
+
+pub steps_and_back : lift_text 5 (codes "ops\nstep 1\n// a comment\nback\nstep 2\nops\n")
+    ≡ codes "1 $initialise_machine : 1\n$initialise_machine complete\nok\n$initialise_machine : 1\nok\nstate 0\nok\nerror E5 no-step\n"
+steps_and_back = refl
