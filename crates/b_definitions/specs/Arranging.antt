@@ -27,14 +27,23 @@ pub record IsArranged (old new : List Def) : Type 0 where
 abbrev pub HasCircle : List Def → Type 0
 HasCircle table = (circle : List ℕ) × (is_circle (all_uses table) circle ≡ true)
 
+-- the definition at a place uses itself, be it through others
+abbrev pub IsInCircle : List Def → ℕ → Type 0
+IsInCircle table at = (rest : List ℕ) × (is_circle (all_uses table) (at ∷ rest) ≡ true)
+
+-- no definition uses itself, be it through others
+abbrev pub HasNoCircle : List Def → Type 0
+HasNoCircle table = HasCircle table → ⊥
+
+-- the table in the order of use, or a definition in a circle
 abbrev pub Arranges : List Def → Result DefTable Disorder → Type 0
 Arranges old (Ok t) = IsArranged old t.defs
-Arranges old (Err (Circle at)) = HasCircle old
+Arranges old (Err (Circle at)) = IsInCircle old at
 Arranges old (Err Memory) = Unit {0}
 
 -- a circle among some uses, or want of memory
 abbrev pub IsCircleIn : List (List ℕ) → Disorder → Type 0
-IsCircleIn rows (Circle at) = (circle : List ℕ) × (is_circle rows circle ≡ true)
+IsCircleIn rows (Circle at) = (rest : List ℕ) × (is_circle rows (at ∷ rest) ≡ true)
 IsCircleIn rows Memory = Unit {0}
 
 -- the table, where it is in the order of use

@@ -2,3 +2,5 @@ pub mod Uses
 pub mod Tables
 pub mod Ranks
 pub mod Arranging
+pub mod Meaning
+pub mod Parting

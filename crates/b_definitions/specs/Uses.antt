@@ -8,6 +8,11 @@ use Rattle.b_ast.specs.declared.Formula.{Formula, fold-Formula}
 use Rattle.b_ast.specs.declared.Link.{Link, fold-Link}
 use Rattle.b_ast.specs.declared.After.{After, fold-After}
 use Rattle.b_ast.specs.declared.After.TheOpen.{Formula-F, Link-F, After-F}
+use Rattle.b_ast.specs.declared.machine.Subst.{Subst, fold-Subst}
+use Rattle.b_ast.specs.declared.machine.Subst.TheOpen.{Subst-F, Branch-F, CaseBranch-F, Step-F}
+use Rattle.b_ast.specs.declared.machine.Branch.{Branch, fold-Branch}
+use Rattle.b_ast.specs.declared.machine.CaseBranch.{CaseBranch, fold-CaseBranch}
+use Rattle.b_ast.specs.declared.machine.Step.{Step, fold-Step}
 use Rattle.b_names.specs.Index.{place_of}
 
 -- one list after the other
@@ -58,10 +63,59 @@ used_in_link table ps = fold-Link (List ℕ) (List ℕ) (List ℕ) after_step (f
 abbrev pub used_in_form : List Def → List (List ℕ) → After → List ℕ
 used_in_form table ps = fold-After (List ℕ) (List ℕ) (List ℕ) after_step (formula_step table ps) link_step
 
+abbrev pub used_in_all : List Def → List (List ℕ) → List Formula → List ℕ
+used_in_all table ps es = joined (map (used_in table ps) es)
+
+-- ---- substitutions: names that are written to are no uses
+
+abbrev pub in_part : Option (List ℕ) → List ℕ
+in_part None = []
+in_part (Some xs) = xs
+
+abbrev pub branch_step : List Def → List (List ℕ) → Branch-F (List ℕ) (List ℕ) (List ℕ) (List ℕ) → List ℕ
+branch_step table ps b = used_in table ps b.guard ++ b.body
+
+abbrev pub case_step : List Def → List (List ℕ) → CaseBranch-F (List ℕ) (List ℕ) (List ℕ) (List ℕ) → List ℕ
+case_step table ps b = used_in_all table ps b.labels ++ b.body
+
+abbrev pub step_step : Step-F (List ℕ) (List ℕ) (List ℕ) (List ℕ) → List ℕ
+step_step k = k.body
+
+abbrev pub subst_step : List Def → List (List ℕ) → Subst-F (List ℕ) (List ℕ) (List ℕ) (List ℕ) → List ℕ
+subst_step table ps (Subst-F.Skip at) = []
+subst_step table ps (Subst-F.Block at xs) = xs
+subst_step table ps (Subst-F.Assign at ns es) = used_in_all table ps es
+subst_step table ps (Subst-F.Update at n e f) = used_in table ps e ++ used_in table ps f
+subst_step table ps (Subst-F.ChooseFrom at n e) = used_in table ps e
+subst_step table ps (Subst-F.ChooseSuch at ns p) = used_in table ps p
+subst_step table ps (Subst-F.Guarded at g p xs) = used_in table ps p ++ xs
+subst_step table ps (Subst-F.If at xss o) = joined xss ++ in_part o
+subst_step table ps (Subst-F.Select at xss o) = joined xss ++ in_part o
+subst_step table ps (Subst-F.Choice at xss) = joined xss
+subst_step table ps (Subst-F.Case at e xss o) = used_in table ps e ++ (joined xss ++ in_part o)
+subst_step table ps (Subst-F.Any at ns p xs) = used_in table ps p ++ xs
+subst_step table ps (Subst-F.Let at ns es xs) = used_in_all table ps es ++ xs
+subst_step table ps (Subst-F.Chain xs xss) = xs ++ joined xss
+subst_step table ps (Subst-F.Use at x es) = listed (meant table ps x) ++ used_in_all table ps es
+
+abbrev pub used_in_subst : List Def → List (List ℕ) → Subst → List ℕ
+used_in_subst table ps = fold-Subst (List ℕ) (List ℕ) (List ℕ) (List ℕ) (subst_step table ps) (branch_step table ps) (case_step table ps) step_step
+
+abbrev pub used_in_branch : List Def → List (List ℕ) → Branch → List ℕ
+used_in_branch table ps = fold-Branch (List ℕ) (List ℕ) (List ℕ) (List ℕ) (subst_step table ps) (branch_step table ps) (case_step table ps) step_step
+
+abbrev pub used_in_case : List Def → List (List ℕ) → CaseBranch → List ℕ
+used_in_case table ps = fold-CaseBranch (List ℕ) (List ℕ) (List ℕ) (List ℕ) (subst_step table ps) (branch_step table ps) (case_step table ps) step_step
+
+abbrev pub used_in_step : List Def → List (List ℕ) → Step → List ℕ
+used_in_step table ps = fold-Step (List ℕ) (List ℕ) (List ℕ) (List ℕ) (subst_step table ps) (branch_step table ps) (case_step table ps) step_step
+
+-- ---- tables
+
 abbrev pub used_in_body : List Def → List (List ℕ) → DefBody → List ℕ
 used_in_body table ps (body.Expr e) = used_in table ps e.formula
 used_in_body table ps (body.Pred p) = used_in table ps p.formula
-used_in_body table ps (body.Subst u) = []
+used_in_body table ps (body.Subst u) = used_in_subst table ps u
 
 -- the definitions that a definition uses
 abbrev pub used_by : List Def → Def → List ℕ

@@ -1,10 +1,12 @@
 //! A table of definitions in the order of use.
-ghost use Rattle.std.specs.Prelude.{◌≡◌, IfOk};
-ghost use Rattle.b_definitions.specs.Arranging.{Arranges, IsCircleIn, IsChecked};
-ghost use Rattle.b_definitions.specs.Tables.{IsIndexed};
+ghost use Rattle.std.specs.Prelude.{◌≡◌, length, IfOk, OnOk};
+ghost use Rattle.b_definitions.specs.Arranging.{Arranges, HasNoCircle, IsCircleIn, IsChecked};
+ghost use Rattle.b_definitions.specs.Meaning.{MeansInOrder, IsSettled};
+ghost use Rattle.b_definitions.specs.Tables.{IsIndexed, SameFirst};
 ghost use Rattle.b_definitions.specs.Uses as uses;
 
 use crate::checks;
+use crate::parting::parts_of;
 use crate::search::{Found, order_of_use};
 use crate::sorting::sorted_by_rank;
 use crate::uses::all_uses;
@@ -42,7 +44,7 @@ fn circle(rows: &[Items<usize>], found: &[usize]) -> Disorder
 {
     match found {
         [] => Disorder::Memory,
-        [first, ..] => {
+        [first, _rest @ ..] => {
             if checks::is_circle(rows, found) {
                 Disorder::Circle(*first)
             } else {
@@ -68,6 +70,25 @@ fn checked(alloc: Global, table: DefTable) -> Result<DefTable, Disorder>
     }
 }
 
+// The first definitions of names by rank, and the others behind them.
+#[tactic(auto, using(crate::proofs::Parts::firsts_stay, crate::proofs::Parts::all_stay))]
+fn sorted_firsts(
+    alloc: Global,
+    table: DefTable,
+    index: &Index,
+    ranks: &[u64],
+) -> Result<DefTable, AllocError>
+    requires { IsIndexed table.defs index.now }
+    ensures first { IfOk result (λ t. SameFirst table.defs t.defs) }
+    ensures many { IfOk result (λ t. length t.defs ≡ length table.defs) }
+{
+    let parts = parts_of(alloc, table, index)?;
+    let sorted = sorted_by_rank(alloc, DefTable { defs: parts.firsts }, index, ranks)?;
+    let mut defs = sorted.defs;
+    defs.append(parts.later)?;
+    Ok(DefTable { defs })
+}
+
 // The definitions by rank, if that is an order of use.
 fn in_order(
     alloc: Global,
@@ -75,9 +96,10 @@ fn in_order(
     index: &Index,
     ranks: &[u64],
 ) -> Result<DefTable, Disorder>
+    requires { IsIndexed table.defs index.now }
     ensures { Arranges table.defs result }
 {
-    match sorted_by_rank(alloc, table, index, ranks) {
+    match sorted_firsts(alloc, table, index, ranks) {
         Ok(sorted) => checked(alloc, sorted),
         Err(_) => Err(Disorder::Memory),
     }
@@ -90,7 +112,8 @@ fn arranged_by(
     index: &Index,
     rows: &[Items<usize>],
 ) -> Result<DefTable, Disorder>
-    requires { rows.now ≡ uses.all_uses table.defs }
+    requires rows { rows.now ≡ uses.all_uses table.defs }
+    requires index { IsIndexed table.defs index.now }
     ensures { Arranges table.defs result }
 {
     match order_of_use(rows, alloc) {
@@ -100,9 +123,7 @@ fn arranged_by(
     }
 }
 
-/// The same definitions in an order in which each uses only those before it, if no definition uses itself through others.
-/// Of two definitions of one name the first stays the first.
-pub fn arranged(alloc: Global, table: DefTable) -> Result<DefTable, Disorder>
+fn arranged_or_circle(alloc: Global, table: DefTable) -> Result<DefTable, Disorder>
     ensures { Arranges table.defs result }
 {
     match indexed(alloc, table.defs.as_slice()) {
@@ -112,4 +133,15 @@ pub fn arranged(alloc: Global, table: DefTable) -> Result<DefTable, Disorder>
         },
         Err(_) => Err(Disorder::Memory),
     }
+}
+
+/// The same definitions in an order in which each uses only those before it, if no definition uses itself through others.
+/// Definitions whose name has an earlier one come last: nothing means them.
+pub fn arranged(alloc: Global, table: DefTable) -> Result<DefTable, Disorder>
+    ensures arranges { Arranges table.defs result }
+    ensures means { IfOk result (λ t. MeansInOrder table.defs t.defs) }
+    ensures settled { OnOk result (IsSettled table.defs) }
+    ensures exact { OnOk result (HasNoCircle table.defs) }
+{
+    arranged_or_circle(alloc, table)
 }

@@ -3,8 +3,10 @@
 
 mod arranging;
 mod checks;
+mod parting;
 mod search;
 mod sorting;
+mod substitutions;
 mod uses;
 
 pub use arranging::{Disorder, arranged};

@@ -4,6 +4,7 @@ ghost use Rattle.b_names.specs.Index as place;
 ghost use Rattle.b_definitions.specs.Uses as spec;
 ghost use Rattle.b_definitions.specs.Tables.{IsIndexed};
 
+use crate::substitutions::collect_subst;
 use b_ast::machine::{Def, DefBody};
 use b_ast::{After, Formula, Link};
 use b_names::Index;
@@ -31,19 +32,25 @@ fn definition_of(body: &Body<'_>, name: &[u8]) -> Option<usize>
     body.index.first(name)
 }
 
-// The definition that a name means, where it is no parameter.
-fn meant(body: &Body<'_>, name: &[u8]) -> Option<usize>
+/// The definition that a name means, where it is no parameter.
+pub fn meant(body: &Body<'_>, name: &[u8]) -> Option<usize>
     requires { IsIndexed body.now.table.now body.now.index.now }
     ensures { result ≡ spec.meant body.now.table.now body.now.params.now name.now }
 {
-    if place_of(body.params, name).is_some() {
-        None
-    } else {
-        definition_of(body, name)
+    match definition_of(body, name) {
+        Some(i) => {
+            if place_of(body.params, name).is_some() {
+                None
+            } else {
+                Some(i)
+            }
+        }
+        None => None,
     }
 }
 
-fn with_meant(place: Option<usize>, found: Items<usize>) -> Result<Items<usize>, AllocError>
+/// Some places and one that may be there.
+pub fn with_meant(place: Option<usize>, found: Items<usize>) -> Result<Items<usize>, AllocError>
     ensures { IfOk result (λ xs. xs ≡ found ++ spec.listed place) }
 {
     let mut found = found;
@@ -53,10 +60,14 @@ fn with_meant(place: Option<usize>, found: Items<usize>) -> Result<Items<usize>,
     Ok(found)
 }
 
-// Some places and those that a tree uses.
+/// Some places and those that a tree uses.
 #[cycle(collect)]
 #[tactic(auto, using(crate::proofs::Joining::nothing_more, crate::proofs::Joining::joined_two))]
-fn collect(tree: &Formula, found: Items<usize>, body: &Body<'_>) -> Result<Items<usize>, AllocError>
+pub fn collect(
+    tree: &Formula,
+    found: Items<usize>,
+    body: &Body<'_>,
+) -> Result<Items<usize>, AllocError>
     requires { IsIndexed body.now.table.now body.now.index.now }
     ensures { IfOk result (λ xs. xs ≡ found ++ spec.used_in body.now.table.now body.now.params.now tree.now) }
 {
@@ -94,13 +105,13 @@ fn collect(tree: &Formula, found: Items<usize>, body: &Body<'_>) -> Result<Items
 
 #[cycle(collect)]
 #[tactic(auto, using(crate::proofs::Joining::nothing_more, crate::proofs::Joining::joined_two))]
-fn collect_all(
+pub fn collect_all(
     trees: &[Formula],
     found: Items<usize>,
     body: &Body<'_>,
 ) -> Result<Items<usize>, AllocError>
     requires { IsIndexed body.now.table.now body.now.index.now }
-    ensures { IfOk result (λ xs. xs ≡ found ++ spec.joined (map (spec.used_in body.now.table.now body.now.params.now) trees.now)) }
+    ensures { IfOk result (λ xs. xs ≡ found ++ spec.used_in_all body.now.table.now body.now.params.now trees.now) }
 {
     let mut all = found;
     for tree in trees {
@@ -190,7 +201,7 @@ fn used_by(
     match &def.body {
         DefBody::Expr(e) => collect(&e.formula, Items::new(alloc), &body),
         DefBody::Pred(p) => collect(&p.formula, Items::new(alloc), &body),
-        DefBody::Subst(_) => Ok(Items::new(alloc)),
+        DefBody::Subst(u) => collect_subst(u, Items::new(alloc), &body),
     }
 }
 

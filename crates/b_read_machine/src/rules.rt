@@ -2,10 +2,10 @@
 ghost use Rattle.std.specs.Prelude.{◌≡◌, ◌||◌, is_some, map, nat_eq};
 ghost use Rattle.std.specs.List.{list_any};
 ghost use Rattle.b_machine_grammar.specs.Words as words;
-ghost use Rattle.b_read_machine.specs.Stretches.{pieces, zipped};
+ghost use Rattle.b_stretches.specs.Stretches.{pieces, zipped};
 ghost use Rattle.b_read_machine.specs.Rules as spec;
 
-use crate::stretch::{Stretch, first, is_word};
+use b_stretches::{Stretch, first, is_word};
 use b_ast::Place;
 use b_grammar::Lexeme;
 use b_machine_grammar::trees::{Clause, MachineTree};

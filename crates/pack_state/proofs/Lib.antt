@@ -1,0 +1,4 @@
+mod Loops
+mod Unpacked
+mod Fronts
+mod Puts

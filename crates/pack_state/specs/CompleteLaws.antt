@@ -50,7 +50,7 @@ ascends_from (v ∷ vs) h = behind_from v vs h
 pub part_of_sum : (m : ℕ) (a b : ℕ) → 1 + a + b ≤ m → (a ≤ m) × (b ≤ m)
 part_of_sum m a b h = (omega (arith, h), omega (arith, h))
 
-sum_cons : (x : Value) (xs : List Value) → sum (map node_count (x ∷ xs)) ≡ node_count x + sum (map node_count xs)
+pub sum_cons : (x : Value) (xs : List Value) → sum (map node_count (x ∷ xs)) ≡ node_count x + sum (map node_count xs)
 sum_cons x xs = sum_by-cons (λ n. n) (node_count x) (map node_count xs)
 
 pub counts_fit : (m : ℕ) (xs : List Value) → sum (map node_count xs) ≤ m → AllByRecursion (λ x. node_count x ≤ m) xs

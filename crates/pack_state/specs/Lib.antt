@@ -1,6 +1,7 @@
 pub mod Bytes
 pub mod Unpacking
 pub mod Spelled
+pub mod Answers
 pub mod ByteLaws
 pub mod SoundLaws
 pub mod CompleteLaws

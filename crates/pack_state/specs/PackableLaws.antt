@@ -101,3 +101,22 @@ running_state face s cs vs e h k w x =
     let fits = subst (FitsFace face) e h in
     let kept = parts_kept IsKept cs vs (subst (λ (s : State). AllByRecursion IsKept (values_in s)) e k) in
     subst (IsStateOf face) (sym e) (packed_typed face.sets face.constants cs fits.0 kept.0 w, packed_typed face.sets face.variables vs fits.1 kept.1 x)
+
+names_fit : (sets : List SetFace) (names : List NameFace) (vs : List Value) → AreOfTypes sets names vs → HaveTypes sets names vs × AllByRecursion IsKept vs
+names_fit sets [] [] h = (tt, tt)
+names_fit sets [] (v ∷ vs) h = absurd h
+names_fit sets (n ∷ names) [] h = absurd h
+names_fit sets (n ∷ names) (v ∷ vs) h = let more = names_fit sets names vs h.1 in ((h.0.typed, more.0), (h.0.kept, more.1))
+
+kept_both : (xs ys : List Value) → AllByRecursion IsKept xs → AllByRecursion IsKept ys → AllByRecursion IsKept (xs ++ ys)
+kept_both [] ys h k = k
+kept_both (x ∷ xs) ys h k = (h.0, kept_both xs ys h.1 k)
+
+-- a state of the machine may be packed
+pub state_fits : (face : Face) (s : State) → IsStateOf face s → FitsFace face s × AllByRecursion IsKept (values_in s)
+state_fits face Root h = (tt, tt)
+state_fits face (Constants cs) h = names_fit face.sets face.constants cs h
+state_fits face (Running cs vs) h =
+    let first = names_fit face.sets face.constants cs h.0 in
+    let second = names_fit face.sets face.variables vs h.1 in
+    ((first.0, second.0), kept_both cs vs first.1 second.1)

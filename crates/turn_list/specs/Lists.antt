@@ -1,10 +1,11 @@
 -- What a clause says of a list of turns and a list of passes.
-use Rattle.std.specs.Prelude.{◌≡◌, List, [], ◌∷◌, map, All}
+use Rattle.std.specs.Prelude.{◌≡◌, ◌+◌, ◌≤◌, ℕ, List, [], ◌∷◌, map, All, slice_get, Some}
 use Rattle.std.specs.List.{AllZip}
 use Rattle.turn_lock.specs.declared.kept.Kept.{Ghosts}
 use Rattle.turn_lock.specs.declared.turn.Pass.{Pass}
 use Rattle.turn_lock.specs.declared.turn.Turn.{Turn}
-use Rattle.turn_lock.specs.Passes.{Known, joined_known}
+use Rattle.turn_lock.specs.Histories.{Begins, longer_of}
+use Rattle.turn_lock.specs.Passes.{Known, joined_known, all_shares}
 use Rattle.turn_lock.specs.Turns.{known, tag_of, IsPassOf}
 
 -- each value fits its tag, and its history is empty
@@ -30,3 +31,13 @@ abbrev pub joined_all : {Entry : Type 0} → List (Known Entry) → List (Known 
 joined_all [] others = []
 joined_all (known ∷ into) [] = known ∷ into
 joined_all (known ∷ into) (other ∷ others) = joined_known known other ∷ joined_all into others
+
+-- two passes of one turn: both have seen beginnings of one history, the longer of theirs, and they have no more shares than the turn
+pub record AreOfOneTurn {Entry : Type 0} (known other : Known Entry) : Type 0 where
+  pub begins : Begins known.seen (longer_of known.seen other.seen)
+  pub other_begins : Begins other.seen (longer_of known.seen other.seen)
+  pub within_all : known.shares + other.shares ≤ all_shares
+
+-- so it is of the two at each place
+abbrev pub AreOfOneTurnEach : {Entry : Type 0} → List (Known Entry) → List (Known Entry) → Type 0
+AreOfOneTurnEach {Entry} into others = (place : ℕ) (known other : Known Entry) → slice_get into place ≡ Some known → slice_get others place ≡ Some other → AreOfOneTurn known other

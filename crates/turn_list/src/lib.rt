@@ -3,7 +3,7 @@
 
 ghost use Rattle.std.specs.Prelude.{◌≡◌, ◌<◌, ◌≤◌, All, OnErr, IfOk, [], length, map, slice_get, Some};
 ghost use Rattle.turn_lock.specs.Passes.{first_known, left_known, split_known};
-ghost use Rattle.turn_list.specs.Lists.{ArePassesOf, all_known, all_tags, joined_all, CanBeOpened};
+ghost use Rattle.turn_list.specs.Lists.{ArePassesOf, all_known, all_tags, joined_all, AreOfOneTurnEach, CanBeOpened};
 ghost use Rattle.turn_list.specs.Places.{KeepsAt, RanAt};
 
 use std::alloc::Global;
@@ -72,6 +72,7 @@ pub fn join_all<V: Kept + Drop>(turns: &[Turn<V>], into: &mut [Pass<V>], mut oth
     requires others { ArePassesOf turns.now others.items }
     ensures turns { ArePassesOf turns.now into.new }
     ensures joined { all_known into.new ≡ joined_all (all_known into.old) (all_known others.items) }
+    ensures of_one_turn { AreOfOneTurnEach (all_known into.old) (all_known others.items) }
 {
     while let Some(other) = others.pop() {
         let i = others.len();

@@ -1,4 +1,4 @@
-ghost use Rattle.std.specs.Prelude.{◌≡◌, ◌≢◌, ◌+◌, ◌<◌, ◌≤◌, true, MatchOption, IfSome, [], ◌∷◌, length, IfOk, Some};
+ghost use Rattle.std.specs.Prelude.{◌≡◌, ◌≢◌, ◌+◌, ◌<◌, ◌≤◌, true, MatchOption, IsSomeAnd, [], ◌∷◌, length, IfOk, Some};
 ghost use Rattle.turn_lock.specs.Histories.{Begins};
 ghost use Rattle.turn_lock.specs.Passes.{all_shares, first_known, left_known, split_known, joined_known};
 ghost use Rattle.turn_lock.specs.Views.{is_idle};
@@ -197,7 +197,7 @@ impl<V: Kept + Drop> Turn<V> {
         requires { IsPassOf self pass }
         ensures value { MatchOption result.value (result.missing ≢ 0) (λ value. V.fits (tag_of V.tag self) value
             × Begins (known pass).seen (V.history value) × (result.own ≤ length (V.history value))) }
-        ensures whole { result.missing ≡ 0 → IfSome result.value (λ value. result.own ≡ length (V.history value)) }
+        ensures whole { result.missing ≡ 0 → IsSomeAnd result.value (λ value. result.own ≡ length (V.history value)) }
         ensures counts { (result.own ≡ (known pass).own) × (result.missing + (known pass).shares ≡ all_shares) }
     {
         let Turn { table } = self;

@@ -1,5 +1,5 @@
 // Threads that raise one tally.
-ghost use Rattle.std.specs.Prelude.{◌≡◌, ◌<◌, All, IfOk, IfSome};
+ghost use Rattle.std.specs.Prelude.{◌≡◌, ◌<◌, All, IfOk, IsSomeAnd};
 ghost use Rattle.std.specs.Thread.{IsSync};
 ghost use Rattle.turn_lock.specs.Turns.{known, IsPassOf};
 
@@ -59,7 +59,7 @@ pub fn raise_by_four<R: Threads + Wait + Sync>(
     times: u64,
 ) -> Result<Closed<Tally>, NoMemory>
     ensures whole { IfOk result (λ closed. closed.missing ≡ 0) }
-    ensures value { IfOk result (λ closed. IfSome closed.value (λ tally. closed.own ≡ tally.count)) }
+    ensures value { IfOk result (λ closed. IsSomeAnd closed.value (λ tally. closed.own ≡ tally.count)) }
 {
     let (tallies, mut first) = Turn::new(alloc, Tally::new(limit))?;
     let second = tallies.split(&mut first);

@@ -82,6 +82,18 @@ fn many_passes_are_joined_the_last_one_first(rt: HostRuntime) -> Result<(), Fail
 }
 
 #[test]
+fn many_passes_are_joined_to_the_last_one(rt: HostRuntime) -> Result<(), Fail> {
+    let (turn, mut first) = Turn::new(rt.alloc(), Tally::new(1000))?;
+    let mut others = split_many(&rt, rt.alloc(), &turn, &mut first, 20)?;
+    let mut last = others.pop().expect(&rt, "there are twenty passes");
+    turn.join(&mut last, first);
+    join_each(&turn, &mut last, others);
+    let closed = turn.close(last);
+    assert_eq!(rt; (closed.own, closed.missing), (20, 0));
+    Ok(())
+}
+
+#[test]
 fn four_threads_raise_one_tally(rt: HostRuntime) -> Result<(), Fail> {
     for (limit, times, count) in [(u64::MAX, 10_000, 40_000), (100, 50, 100)] {
         let closed = raise_by_four(&rt, rt.alloc(), limit, times)?;

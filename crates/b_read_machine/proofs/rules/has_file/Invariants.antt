@@ -1,5 +1,5 @@
 use Rattle.std.proofs.Common.{◌≡◌, length}
-use Rattle.b_read_machine.specs.Stretches.{pieces}
+use Rattle.b_stretches.specs.Stretches.{pieces}
 use Rattle.b_read_machine.specs.Rules.{has_file}
 use Rattle.b_read_machine.proofs.rules.has_file.Given as goal
 

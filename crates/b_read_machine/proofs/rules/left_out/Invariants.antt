@@ -1,5 +1,5 @@
 use Rattle.std.proofs.Common.{◌≡◌, length}
-use Rattle.b_read_machine.specs.Stretches.{pieces, zipped}
+use Rattle.b_stretches.specs.Stretches.{pieces, zipped}
 use Rattle.b_read_machine.specs.Rules.{has_left_out}
 use Rattle.b_read_machine.proofs.rules.left_out.Given as goal
 

@@ -1,5 +1,5 @@
 use Rattle.std.proofs.Common.{arith, ◌≡◌, ◌≢◌, ◌-◌, ◌≤◌, subst, sym, ◌∙◌, Option, length}
-use Rattle.std.specs.Option.{MatchOption, IfSome}
+use Rattle.std.specs.Option.{MatchOption, IsSomeAnd}
 use Rattle.turn_lock.specs.Histories.{Begins}
 use Rattle.turn_lock.specs.Passes.{all_shares}
 use Rattle.turn_lock.specs.Turns.{known}
@@ -33,10 +33,11 @@ returns-clause-whole g c none_missing =
     let tag = g.V.Kept.tag c.args.self.table.shared.key.value in
     let few : c.args.pass.seat.me.0.shares ≤ all_shares = ended_shares g.V.Kept.fits g.V.Kept.history _ _ _ _ _ c.close_with-closed.ensures.values.2 in
     let whole : all_shares ≤ c.args.pass.seat.me.0.shares = omega (arith, c.args.pass.counts.1, none_missing) in
-    let Says : Option g.row.V.Denot → Type 0 = λ o. IfSome o (λ v. c.args.pass.own ≡ length (g.V.Kept.history v)) in
+    let Says : Option g.row.V.Denot → Type 0 = λ o. IsSomeAnd o (λ v. c.args.pass.own ≡ length (g.V.Kept.history v)) in
     elim c.if-is_free.branch [
       | then-is_free w ↦
           let t = ended_value g.V.Kept.fits g.V.Kept.history tag _ _ _ _ _ _ _ c.close_with-closed.ensures.values.2 c.word.ensures c.word-2.ensures w.if-is_free.true c.take-last.ensures.value in
           subst Says (sym w.value-is) (sym c.args.pass.counts.0 ∙ t.3 whole)
-      | else-is_free w ↦ subst Says (sym w.value-is) tt
+      | else-is_free w ↦
+          absurd (w.if-is_free.false (ended_free g.V.Kept.fits g.V.Kept.history tag _ _ _ _ _ _ c.close_with-closed.ensures.values.2 c.word.ensures c.word-2.ensures c.args.pass.rests.0 whole))
     ]

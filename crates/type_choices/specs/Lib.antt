@@ -1,0 +1,4 @@
+pub mod Forms
+pub mod Settling
+pub mod Passing
+pub mod Choosing
