@@ -45,7 +45,7 @@ use Rattle.trace_ops.specs.Traces.{back, forward, jump, added, is_full}
 use Rattle.trace_ops.specs.declared.faults.MoveFault.{MoveFault}
 use Rattle.trace_ops.specs.declared.faults.MoveFault.TheVariants as move
 use Rattle.animator.specs.Sessions.{Session, Trace, Kept, state_in, all_taken, with_trace, with_subs, kept_of, keeping, was_shown, showing}
-use Rattle.animator.specs.Plans.{Answered, Plan, Done, Lists, Value, Find, Confirm, Number, Load, Store, Show}
+use Rattle.animator.specs.Plans.{Answered, Plan, Done, Lists, ValueIn, Find, Confirm, Number, Load, Store, Show}
 use Rattle.animator.specs.Saved.{saved_steps}
 
 -- the items and events of a document of visual elements
@@ -87,11 +87,11 @@ show_each (state ∷ states) plan = Show (state ∷ states) plan
 abbrev pub told_subs : State → List Sub → List SubValue → (List SubValue → Plan) → Plan
 told_subs state [] answers end = end answers
 told_subs state (sub ∷ subs) answers end =
-    Value state sub.key (λ answer. told_subs state subs (answers ++ record { number = sub.number; answer = answer } ∷ []) end)
+    ValueIn state sub.key (λ answer. told_subs state subs (answers ++ record { number = sub.number; answer = answer } ∷ []) end)
 
 -- a command that ends in a new current state tells the subscriptions there
 abbrev pub arrived : State → Session → (List SubValue → Reply State) → Plan
-arrived root session reply = told_subs (state_in root session.trace) session.subs.list [] (λ answers. ended session (reply answers))
+arrived origin session reply = told_subs (state_in origin session.trace) session.subs.list [] (λ answers. ended session (reply answers))
 
 -- ---- formulas
 
@@ -129,9 +129,9 @@ checked session (answer.Value value bounded) = ended session (reply.Invariant (i
 
 -- at most 64 subscriptions, and each is told at once
 abbrev pub subscribing : State → Session → FormulaKey → Plan
-subscribing root session key =
+subscribing origin session key =
     if subs_are_full session.subs then refused session refusal.SubsFull
-    else Value (state_in root session.trace) key (λ answer. ended (with_subs session (subscribed key session.subs)) (reply.Subscribed (record { number = session.subs.next; answer = answer })))
+    else ValueIn (state_in origin session.trace) key (λ answer. ended (with_subs session (subscribed key session.subs)) (reply.Subscribed (record { number = session.subs.next; answer = answer })))
 
 -- ---- steps
 
@@ -146,18 +146,18 @@ step_of steps (suc k) = slice_get steps k
 
 -- a step is added, where the trace stays within 10,000 steps
 abbrev pub adding : State → Session → Step State → Plan
-adding root session step =
+adding origin session step =
     if is_full session.trace then refused session refusal.TraceFull
-    else Show (step.dest ∷ []) (arrived root (with_trace session (added step session.trace)) (reply.Added step))
+    else Show (step.dest ∷ []) (arrived origin (with_trace session (added step session.trace)) (reply.Added step))
 
 abbrev pub taken : State → Session → Option (Step State) → Plan
-taken root session None = refused session refusal.NoStep
-taken root session (Some step) = adding root session step
+taken origin session None = refused session refusal.NoStep
+taken origin session (Some step) = adding origin session step
 
 abbrev pub searched : State → Session → Found State → Plan
-searched root session found.Nothing = refused session refusal.NoStep
-searched root session (found.Fault fault) = refused session (refusal.Fault fault)
-searched root session (found.Step step) = adding root session step
+searched origin session found.Nothing = refused session refusal.NoStep
+searched origin session (found.Fault fault) = refused session (refusal.Fault fault)
+searched origin session (found.Step step) = adding origin session step
 
 -- an operation by its name; the setup and the initialisation are operations of every machine
 abbrev pub operation_of : Face → List ℕ → Option OpId
@@ -168,8 +168,8 @@ operation_of face name =
 
 -- a search asks for a predicate; an expression is a fault of syntax
 abbrev pub searching : State → Session → OpId → FormulaKey → Plan
-searching root session op key =
-    if key.predicate then Find (state_in root session.trace) op (key ∷ []) (searched root session) else refused session refusal.Syntax
+searching origin session op key =
+    if key.predicate then Find (state_in origin session.trace) op (key ∷ []) (searched origin session) else refused session refusal.Syntax
 
 abbrev pub doing : Meaning → Session → Option (List ℕ) → Option OpId → Plan
 doing m session predicate None = refused session refusal.UnknownName
@@ -185,17 +185,17 @@ move_refusal move.NoPosition = refusal.NoPosition
 
 -- the session goes on with this trace
 abbrev pub gone : State → Session → Trace → Plan
-gone root session trace = arrived root (with_trace session trace) (reply.Moved (state_in root trace))
+gone origin session trace = arrived origin (with_trace session trace) (reply.Moved (state_in origin trace))
 
 abbrev pub moved : State → Session → Result Trace MoveFault → Plan
-moved root session (Err fault) = refused session (move_refusal fault)
-moved root session (Ok trace) = gone root session trace
+moved origin session (Err fault) = refused session (move_refusal fault)
+moved origin session (Ok trace) = gone origin session trace
 
 abbrev pub use_of : State → Session → Option Kept → Plan
-use_of root session None = refused session refusal.NoKept
-use_of root session (Some kept) = gone root session kept.trace
+use_of origin session None = refused session refusal.NoKept
+use_of origin session (Some kept) = gone origin session kept.trace
 
--- a state with its values; root has none
+-- a state with its values; origin has none
 abbrev pub values_of : State → Option (List Value)
 values_of Root = None
 values_of state = Some (values_in state)
@@ -216,7 +216,7 @@ stored session false = refused session refusal.Document
 
 -- the steps that were confirmed are the new trace
 abbrev pub replayed : State → Session → List (Step State) → Plan
-replayed root session steps = show_each (dests steps) (arrived root (with_trace session (all_taken steps)) (reply.Replayed steps))
+replayed origin session steps = show_each (dests steps) (arrived origin (with_trace session (all_taken steps)) (reply.Replayed steps))
 
 -- an entry that no step confirms refuses them all
 abbrev pub confirmed_by : Session → List (Step State) → (List (Step State) → Plan) → Confirmed State → Plan
@@ -225,14 +225,14 @@ confirmed_by session steps go (confirmed.Step step) = go (steps ++ step ∷ [])
 
 -- each entry is confirmed from the state that the steps before it reached
 abbrev pub confirm_each : State → Session → List SavedStep → List (Step State) → Plan
-confirm_each root session [] steps = replayed root session steps
-confirm_each root session (entry ∷ entries) steps =
-    Confirm (state_in root (all_taken steps)) entry (confirmed_by session steps (confirm_each root session entries))
+confirm_each origin session [] steps = replayed origin session steps
+confirm_each origin session (entry ∷ entries) steps =
+    Confirm (state_in origin (all_taken steps)) entry (confirmed_by session steps (confirm_each origin session entries))
 
 abbrev pub entered : State → Session → Option (List SavedStep) → Plan
-entered root session None = refused session refusal.TraceFile
-entered root session (Some entries) =
-    if nat_le (length entries) 10000 then confirm_each root session entries [] else refused session refusal.TraceFull
+entered origin session None = refused session refusal.TraceFile
+entered origin session (Some entries) =
+    if nat_le (length entries) 10000 then confirm_each origin session entries [] else refused session refusal.TraceFull
 
 abbrev pub loaded : Setting → Session → Option (List ℕ) → Plan
 loaded s session None = refused session refusal.Document
@@ -255,7 +255,7 @@ migrated s session to (Some bytes) = migrating s session to (s.entries bytes)
 
 -- the end of a walk: its steps were added one after another
 abbrev pub walked : State → Session → Trace → List (Step State) → Plan
-walked root session trace steps = show_each (dests steps) (arrived root (with_trace session trace) (reply.Walked steps))
+walked origin session trace steps = show_each (dests steps) (arrived origin (with_trace session trace) (reply.Walked steps))
 
 -- a step is added, if there is one
 abbrev pub with_step : Trace → Option (Step State) → Trace
@@ -264,8 +264,8 @@ with_step trace (Some step) = added step trace
 
 -- where no step is listed the walk ends; else it goes on by the listed step at the place that is chosen
 abbrev pub strayed : State → Session → Lcg → Trace → List (Step State) → List (Step State) → (Lcg → Trace → List (Step State) → Plan) → Plan
-strayed root session walk trace steps [] go = walked root session trace steps
-strayed root session walk trace steps (first ∷ others) go =
+strayed origin session walk trace steps [] go = walked origin session trace steps
+strayed origin session walk trace steps (first ∷ others) go =
     if is_full trace then refused session refusal.TraceFull
     else
       let choice : ℕ × Lcg = chosen (length (first ∷ others)) walk in
@@ -273,20 +273,20 @@ strayed root session walk trace steps (first ∷ others) go =
 
 -- so many choices are left, behind these steps
 abbrev pub wander : State → Session → ℕ → Lcg → Trace → List (Step State) → Plan
-wander root session zero walk trace steps = walked root session trace steps
-wander root session (suc left) walk trace steps =
-    Lists (state_in root trace) (λ lists. strayed root session walk trace steps (steps_in lists) (wander root session left))
+wander origin session zero walk trace steps = walked origin session trace steps
+wander origin session (suc left) walk trace steps =
+    Lists (state_in origin trace) (λ lists. strayed origin session walk trace steps (steps_in lists) (wander origin session left))
 
 -- ---- visual elements
 
 abbrev pub told_items : State → Session → List Item → List ItemValue → Plan
 told_items state session [] answers = ended session (reply.VisbItems answers)
 told_items state session (item ∷ items) answers =
-    Value state item.key (λ answer. told_items state session items (answers ++ record { id = item.id; attr = item.attr; answer = answer } ∷ []))
+    ValueIn state item.key (λ answer. told_items state session items (answers ++ record { id = item.id; attr = item.attr; answer = answer } ∷ []))
 
 abbrev pub clicked : State → Session → Option Event → Plan
-clicked root session None = refused session refusal.NoEvent
-clicked root session (Some event) = Find (state_in root session.trace) event.op event.preds (searched root session)
+clicked origin session None = refused session refusal.NoEvent
+clicked origin session (Some event) = Find (state_in origin session.trace) event.op event.preds (searched origin session)
 
 -- ---- the table
 
@@ -308,11 +308,11 @@ module _ (s : Setting) where
   plan session command.Trace = ended session (reply.Trace session.trace.position session.trace.steps)
   plan session command.State = ended session (state_shown (state_in s.meaning.root session.trace))
   plan session (command.Show n) = Number n (shown_of session)
-  plan session (command.Eval text) = with_key session (s.meaning.read_formula scope.State text) (λ key. Value (state_in s.meaning.root session.trace) key (evaluated session))
+  plan session (command.Eval text) = with_key session (s.meaning.read_formula scope.State text) (λ key. ValueIn (state_in s.meaning.root session.trace) key (evaluated session))
   plan session (command.Sub text) = with_key session (s.meaning.read_formula scope.State text) (subscribing s.meaning.root session)
   plan session (command.Unsub n) = if list_any (has_number n) session.subs.list then ended (with_subs session (unsubscribed n session.subs)) reply.Done else refused session refusal.NoSub
   plan session command.Subs = ended session (reply.Subscriptions (map (sub_text s.meaning) session.subs.list))
-  plan session command.Inv = Value (state_in s.meaning.root session.trace) invariant_key (checked session)
+  plan session command.Inv = ValueIn (state_in s.meaning.root session.trace) invariant_key (checked session)
   plan session (command.Keep name) =
       if is_some (kept_of session name) || nat_lt (length session.kept) 64 then ended (keeping session name) reply.Done else refused session refusal.KeptFull
   plan session (command.Use name) = use_of s.meaning.root session (kept_of session name)

@@ -1,7 +1,7 @@
 -- The lines of a session as they are counted. A line of more than 65,536 bytes before its LF is too long: its first 65,536 bytes are one
 -- counted line, and each further 65,536 bytes of it, and a shorter last part, are one more.
-use Rattle.std.specs.Prelude.{ℕ, suc, zero, ◌+◌, ◌-◌, ◌/◌, nat_le, List, [], ◌∷◌, ◌++◌, length, map, if◌then◌else◌, ◌==◌}
-use Rattle.std.specs.List.{flat_map, slice_split, repeat}
+use Rattle.std.specs.Prelude.{ℕ, ◌-◌, ◌/◌, nat_le, List, [], ◌∷◌, ◌++◌, length, map, if◌then◌else◌, ◌==◌}
+use Rattle.std.specs.List.{flat_map, repeat}
 
 abbrev pub most_bytes : ℕ
 most_bytes = 65536

@@ -24,7 +24,7 @@ pub data Plan : Type 0 where
   -- the lists of a state
   Lists : State → (StepList State → Plan) → Plan
   -- the value of a formula in a state
-  Value : State → FormulaKey → (ValueAnswer → Plan) → Plan
+  ValueIn : State → FormulaKey → (ValueAnswer → Plan) → Plan
   -- the step of an operation from a state at which the predicates hold
   Find : State → OpId → List FormulaKey → (Found State → Plan) → Plan
   -- the step from a state that agrees with a saved one
@@ -48,7 +48,7 @@ pub record World : Type 0 where
 abbrev pub run : World → Plan → Answered
 run w (Done answered) = answered
 run w (Lists s k) = run w (k (w.meaning.expand s))
-run w (Value s key k) = run w (k (w.meaning.value s key))
+run w (ValueIn s key k) = run w (k (w.meaning.value s key))
 run w (Find s op preds k) = run w (k (w.meaning.find s op preds))
 run w (Confirm s saved k) = run w (k (w.meaning.confirm s saved))
 run w (Number n k) = run w (k (w.number n))
@@ -69,7 +69,7 @@ pub data Ask : Type 0 where
 abbrev pub asks : World → Plan → List Ask
 asks w (Done answered) = []
 asks w (Lists s k) = AskLists s ∷ asks w (k (w.meaning.expand s))
-asks w (Value s key k) = AskValue s key ∷ asks w (k (w.meaning.value s key))
+asks w (ValueIn s key k) = AskValue s key ∷ asks w (k (w.meaning.value s key))
 asks w (Find s op preds k) = AskFind s op preds ∷ asks w (k (w.meaning.find s op preds))
 asks w (Confirm s saved k) = AskConfirm s saved ∷ asks w (k (w.meaning.confirm s saved))
 asks w (Number n k) = asks w (k (w.number n))
@@ -81,7 +81,7 @@ asks w (Show states plan) = asks w plan
 abbrev pub shows : World → Plan → List State
 shows w (Done answered) = []
 shows w (Lists s k) = shows w (k (w.meaning.expand s))
-shows w (Value s key k) = shows w (k (w.meaning.value s key))
+shows w (ValueIn s key k) = shows w (k (w.meaning.value s key))
 shows w (Find s op preds k) = shows w (k (w.meaning.find s op preds))
 shows w (Confirm s saved k) = shows w (k (w.meaning.confirm s saved))
 shows w (Number n k) = shows w (k (w.number n))

@@ -28,16 +28,16 @@ pub record Session : Type 0 where
 
 -- a session that has done nothing; the state before the first step is shown from the start
 abbrev pub fresh : State → Session
-fresh root = record { trace = untouched; kept = []; subs = nothing_subscribed; shown = root ∷ [] }
+fresh origin = record { trace = untouched; kept = []; subs = nothing_subscribed; shown = origin ∷ [] }
 
--- the state that a step leads to; without a step, root
+-- the state that a step leads to; without a step, the state before the first
 abbrev pub state_after : State → Option (Step State) → State
-state_after root None = root
-state_after root (Some step) = step.dest
+state_after origin None = origin
+state_after origin (Some step) = step.dest
 
 -- the state in which a trace stands
 abbrev pub state_in : State → Trace → State
-state_in root trace = state_after root (current trace)
+state_in origin trace = state_after origin (current trace)
 
 -- these steps, all taken
 abbrev pub all_taken : List (Step State) → Trace
