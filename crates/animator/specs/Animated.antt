@@ -11,7 +11,7 @@ use Rattle.host_io.specs.Outside.{Rose, Told, Untold, Absent, Present, ToldDesk}
 use Rattle.session_words.specs.Replies.{reply_text, states_in}
 use Rattle.animator.specs.declared.model.End.{End}
 use Rattle.animator.specs.declared.model.End.TheVariants.{Quit, EndOfInput, SourceFault, SinkFault, LineLimit, NoMemory}
-use Rattle.animator.specs.Names.{place, IsNamed}
+use Rattle.animator.specs.Names.{place, IsNamed, AreDistinct}
 use Rattle.animator.specs.Sessions.{fresh}
 use Rattle.animator.specs.Plans.{lists_asked, values_asked, finds_asked, confirms_asked, cabinet_calls}
 use Rattle.animator.specs.Commands.{Setting}
@@ -159,3 +159,14 @@ pub record IsCounted (s : Setting) (shown : SessionShown) (entries : List Entry)
   pub value : shown.counts.value ≡ min (misses same_value_key s.meaning.face.prefs.cache_values [] (values_asked (asked_in entries))) most_count
   pub find : shown.counts.find ≡ min (finds_asked (asked_in entries)) most_count
   pub confirm : shown.counts.confirm ≡ min (confirms_asked (asked_in entries)) most_count
+
+-- The host's one list of states under the histories of its sessions: it begins with the state before the first step, has each state once,
+-- and each other state of it stands in an answer of some session.
+pub record IsHostList (origin : State) (names : List State) (histories : List (List Entry)) : Type 0 where
+  pub first : slice_get names 0 ≡ Some origin
+  pub distinct : AreDistinct names
+  pub shown : AllByRecursion (λ state. list_any (same_state state) (origin ∷ flat_map shown_states histories) ≡ true) names
+
+-- Where memory refused no line of the one session, the list has its states in the order of their first showing.
+abbrev pub IsInOrder : State → List State → List Entry → Type 0
+IsInOrder origin names entries = names ≡ in_order (origin ∷ []) (flat_map (λ e. states_in e.reply) entries)

@@ -268,8 +268,8 @@ strayed origin session walk trace steps [] go = walked origin session trace step
 strayed origin session walk trace steps (first ∷ others) go =
     if is_full trace then refused session refusal.TraceFull
     else
-      let choice : ℕ × Lcg = chosen (length (first ∷ others)) walk in
-      go choice.1 (with_step trace (slice_get (first ∷ others) choice.0)) (steps ++ take 1 (drop choice.0 (first ∷ others)))
+    let choice : ℕ × Lcg = chosen (length (first ∷ others)) walk in
+    go choice.1 (with_step trace (slice_get (first ∷ others) choice.0)) (steps ++ take 1 (drop choice.0 (first ∷ others)))
 
 -- so many choices are left, behind these steps
 abbrev pub wander : State → Session → ℕ → Lcg → Trace → List (Step State) → Plan

@@ -93,21 +93,39 @@ takes_none session command = false
 -- an entry of a line without a question
 abbrev pub told_entry : Counted → Befell → Session → Documents → Reply State → Entry
 told_entry line befell session documents reply = record {
-  line = line; befell = befell; spared = true; asked = []; whole = record { session = session; reply = reply };
-  reply = reply; session = session; documents = documents;
+  line = line;
+  befell = befell;
+  spared = true;
+  asked = [];
+  whole = record { session = session; reply = reply };
+  reply = reply;
+  session = session;
+  documents = documents;
 }
 
 -- a command that memory refused says so and leaves all as it was
 abbrev pub refused_entry : Counted → Befell → Session → Documents → Bool → List Ask → Answered → Entry
 refused_entry line befell session documents spared asked whole = record {
-  line = line; befell = befell; spared = spared; asked = asked; whole = whole;
-  reply = reply.Refused refusal.Memory; session = session; documents = documents;
+  line = line;
+  befell = befell;
+  spared = spared;
+  asked = asked;
+  whole = whole;
+  reply = reply.Refused refusal.Memory;
+  session = session;
+  documents = documents;
 }
 
 abbrev pub answered_entry : Counted → Befell → Documents → Bool → List Ask → Answered → Entry
 answered_entry line befell documents spared asked whole = record {
-  line = line; befell = befell; spared = spared; asked = asked; whole = whole;
-  reply = whole.reply; session = whole.session; documents = after_asks befell.failed documents asked;
+  line = line;
+  befell = befell;
+  spared = spared;
+  asked = asked;
+  whole = whole;
+  reply = whole.reply;
+  session = whole.session;
+  documents = after_asks befell.failed documents asked;
 }
 
 abbrev pub planned_entry : Counted → Befell → Session → Documents → Bool → World → Plan → Entry
