@@ -1,10 +1,11 @@
 // Writes replies, line by line.
-ghost use Rattle.std.specs.Prelude.{◌≡◌, ◌<◌, ◌≤◌, ◌^◌, ◌+◌, ◌++◌, length, drop, codes, flat_map, Some, OnOk, OnErr, IfOk};
+ghost use Rattle.std.specs.Prelude.{◌≡◌, ◌<◌, ◌≤◌, ◌^◌, ◌+◌, ◌++◌, length, drop, codes, flat_map, Some, OnOk, OnErr, IfOk, IsOk};
 ghost use Rattle.std.specs.Fmt.{decimal};
 ghost use Rattle.b_values.specs.Texts.{text_of};
 ghost use Rattle.session_words.specs.Texts.{line, refusal_text, bounded_mark, end_text};
 ghost use Rattle.session_words.specs.Replies.{op_name, named_values, sub_line, sub_text, item_line, position_line, state_line, step_line, step_lines, list_lines, state_lines, sub_lines, trace_lines, reply_lines, truth_text};
 ghost use Rattle.session_text.specs.Writing.{text_of_reply, IsWritten, as_it_is};
+ghost use Rattle.session_text.specs.Brief.{IsBrief};
 
 use crate::parts::{
     add_answer, add_end, add_item_answer, add_mark, add_op, add_params, add_refusal, add_results,
@@ -394,9 +395,10 @@ fn add_reply(out: &mut ReplyText, face: &Face, reply: &Reply<u64>) -> Result<(),
     }
 }
 
-/// The text of a reply. A text of at most 64 bytes takes no memory.
+/// The text of a reply. A text of at most 64 bytes takes no memory; errors, a lone `ok` and a state alone are such.
 pub fn write_reply(alloc: Global, face: &Face, reply: &Reply<u64>) -> Result<ReplyText, AllocError>
-    ensures { IsWritten (text_of_reply face.now reply.now) result }
+    ensures text { IsWritten (text_of_reply face.now reply.now) result }
+    ensures brief { IsBrief reply.now → IsOk result }
 {
     let mut out = ReplyText::new(alloc);
     match add_reply(&mut out, face, reply) {
