@@ -3,7 +3,6 @@ use Rattle.std.proofs.Common.{◌≡◌, ℕ, zero, suc, ◌+◌, ◌<◌, ◌�
 use Rattle.std.specs.Prelude.{◌==◌, IfSome, IsSome, nat_lt, bytes_eq, position, slice_get, option_map}
 use Rattle.std.specs.List.{position_from}
 use Rattle.std.proofs.lemmas.Bool.{ltb-true, lt-ltb}
-use borrow.Author.Tests.{ltb-false}
 use Rattle.std.proofs.lemmas.Iterator.Adapters.{position_from-zero}
 use Rattle.b_ast.specs.declared.machine.Def.{Def}
 use Rattle.b_ast.specs.declared.machine.DefBody.{DefBody}
@@ -11,7 +10,7 @@ use Rattle.b_ast.specs.declared.machine.DefBody.TheVariants as body
 use Rattle.b_names.specs.declared.places.Index.{Index}
 use Rattle.b_names.specs.declared.places.TableIndex.{TableIndex}
 use Rattle.b_names.specs.Index.{IsIndexOf, IsIndexOfNames, AreOfParameters, place_of}
-use Rattle.b_expand.specs.Filling.{Insert, Inserts, insert_of, inserts, params_of}
+use Rattle.b_expand.specs.Filling.{Inserts, insert_of, inserts, params_of}
 use Rattle.b_expand.specs.Standing.{until, IsIndexed, params_at, means_at, insert_of_first}
 
 -- a place below a bound stays

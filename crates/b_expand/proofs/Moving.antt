@@ -1,11 +1,11 @@
 -- Trees whose places change, and change again.
-use Rattle.std.proofs.Common.{◌≡◌, ℕ, ◌+◌, min, List, [], ◌∷◌, map, Option, Some, None, refl, sym, ap, ◌∙◌, arith}
+use Rattle.std.proofs.Common.{◌≡◌, ℕ, List, [], ◌∷◌, map, Option, Some, None, refl, sym, ap, ◌∙◌, arith}
 use Rattle.std.specs.List.{AllByRecursion}
 use Rattle.b_ast.specs.declared.Place.{Place}
 use Rattle.b_ast.specs.declared.Bound.{Bound}
 use Rattle.b_ast.specs.declared.Formula.{Formula, roll-Formula, map-Formula, fold-roll-Formula}
 use Rattle.b_ast.specs.declared.Formula.TheVariants as formula
-use Rattle.b_ast.specs.declared.Link.{Link, roll-Link, map-Link, fold-roll-Link}
+use Rattle.b_ast.specs.declared.Link.{Link, roll-Link, fold-roll-Link}
 use Rattle.b_ast.specs.declared.After.{After, roll-After, map-After, fold-roll-After}
 use Rattle.b_ast.specs.declared.After.TheVariants as after
 use Rattle.b_ast.specs.declared.After.TheOpen.{Formula-F, Link-F, After-F}

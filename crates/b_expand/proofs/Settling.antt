@@ -1,7 +1,7 @@
 -- A formula in which nothing is expanded becomes itself.
 use Rattle.std.proofs.Common.{◌≡◌, ℕ, ◌+◌, ◌≤◌, min, Bool, true, false, ◌&&◌, ◌||◌, not, cond, ◌==◌, List, [], ◌∷◌, length, map, fold, Option, Some, None, refl, sym, ap, subst, ◌∙◌, arith}
-use Rattle.std.specs.Prelude.{nat_lt, is_some, IfSome, bytes_eq, position, option_and_then}
-use Rattle.std.specs.List.{AllByRecursion, list_all, list_any, position_from}
+use Rattle.std.specs.Prelude.{nat_lt, is_some, IfSome, bytes_eq, option_and_then}
+use Rattle.std.specs.List.{AllByRecursion, list_any, position_from}
 use Rattle.std.proofs.lemmas.Iterator.Adapters.{position_from-zero}
 use borrow.Author.Tests.{ltb-false}
 use Rattle.b_ast.specs.declared.Place.{Place}
@@ -18,7 +18,7 @@ use Rattle.b_ast.specs.declared.After.{After, roll-After, map-After, fold-roll-A
 use Rattle.b_ast.specs.declared.After.TheVariants as after
 use Rattle.b_ast.specs.declared.After.TheOpen.{Formula-F, Link-F, After-F}
 use Rattle.b_expand.specs.Places.{deeper_place, deeper_bound}
-use Rattle.b_expand.specs.Expansion.{Scope, alone, expanded_operator, is_comma}
+use Rattle.b_expand.specs.Expansion.{alone, expanded_operator, is_comma}
 use Rattle.b_expand.specs.Filling.{Insert, Inserts, Filling, Form, Side, named, called, row, after_step, formula_step, link_step, filling, form_of, side_of, with_definition, inserts, filled}
 use Rattle.b_expand.specs.Settled.{is_shallow, are_shallow, all_true, after_settled, formula_settled, link_settled, is_settled, is_settled_link, is_settled_form}
 use Rattle.b_expand.specs.Using.{is_defined}

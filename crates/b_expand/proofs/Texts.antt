@@ -1,17 +1,16 @@
 -- Arguments of uses, and the scopes of texts.
 use Rattle.std.proofs.Common.{◌≡◌, ℕ, zero, suc, ◌+◌, ◌-◌, ◌≤◌, List, [], ◌∷◌, ◌++◌, map, take, length, get_or, Option, Some, None, refl, sym, ap, subst, ◌∙◌, ◌<◌, rules, arith}
-use Rattle.std.specs.Prelude.{IsSome, IfSome, IfOk, Result, slice_get, option_map, option_and_then, bytes_eq, position}
+use Rattle.std.specs.Prelude.{IsSome, IfOk, Result, slice_get, option_map}
 use Rattle.b_ast.specs.declared.Place.{Place}
 use Rattle.b_ast.specs.declared.Formula.{Formula}
-use Rattle.b_ast.specs.declared.Link.{Link, fold-roll-Link}
+use Rattle.b_ast.specs.declared.Link.{Link}
 use Rattle.b_ast.specs.declared.After.{After}
 use Rattle.b_ast.specs.declared.machine.Def.{Def}
 use Rattle.b_expand.specs.declared.standing.Frame.{Frame}
-use Rattle.b_expand.specs.declared.standing.Arguments.{Arguments}
-use Rattle.b_expand.specs.Places.{brackets, deeper, deeper_place, raised_place, raised, moved, moved_after}
+use Rattle.b_expand.specs.Places.{brackets, deeper, raised_place, raised, moved, moved_after}
 use Rattle.b_expand.specs.Expansion as expansion
 use Rattle.b_expand.specs.Expansion.{Scope}
-use Rattle.b_expand.specs.Filling.{Part, Insert, Inserts, Filling, Form, Side, filling, form_of, side_of, sides, parts, total, form_total, or_none, used, used_steps, called_steps, named, row, applied, trees_of, forms, first_arguments, later_forms, insert_of, inserts, params_of, filled}
+use Rattle.b_expand.specs.Filling.{Part, Insert, Inserts, Filling, Form, filling, form_of, side_of, sides, parts, total, form_total, used, used_steps, called_steps, named, row, applied, trees_of, forms, first_arguments, later_forms, insert_of, inserts, params_of, filled}
 use Rattle.b_expand.specs.Standing.{first_part, parts_in, body_of, means_at, params_at, insert_of_first, trees_at, steps_at}
 use Rattle.std.proofs.lemmas.List.{take_all}
 use Rattle.b_expand.proofs.Indexing.{past_end, insert_known, params_of_insert}

@@ -1,6 +1,6 @@
 -- Trees in which nothing is expanded: no name is a definition's, no comma stands between parts of a couple, and no more
 -- brackets are counted than are told apart.
-use Rattle.std.specs.Prelude.{ℕ, nat_lt, Bool, true, ◌&&◌, not, List, [], ◌∷◌}
+use Rattle.std.specs.Prelude.{nat_lt, Bool, true, ◌&&◌, not, List, [], ◌∷◌}
 use Rattle.std.specs.List.{list_all}
 use Rattle.b_ast.specs.declared.Place.{Place}
 use Rattle.b_ast.specs.declared.Bound.{Bound}

@@ -1,5 +1,5 @@
 -- What the records of a text say: what names mean in it, and the scope that it stands in.
-use Rattle.std.specs.Prelude.{◌≡◌, ℕ, nat_lt, cond, List, [], ◌∷◌, length, map, take, Option, Some, None, slice_get, option_map, option_and_then}
+use Rattle.std.specs.Prelude.{ℕ, nat_lt, cond, List, [], ◌∷◌, map, take, Option, Some, None, slice_get, option_map}
 use Rattle.std.specs.Option.{option_copied}
 use Rattle.b_ast.specs.declared.Place.{Place}
 use Rattle.b_ast.specs.declared.machine.Def.{Def}

@@ -1,12 +1,11 @@
-use Rattle.std.proofs.Common.{◌≡◌, ℕ, ◌+◌, ◌≤◌, List, [], ◌∷◌, map, Option, Some, get_or, sym, ap, subst, ◌∙◌, arith, rules}
+use Rattle.std.proofs.Common.{◌≡◌, ℕ, ◌≤◌, List, map, Option, Some, get_or, sym, ap, subst, ◌∙◌, arith}
 use Rattle.std.specs.Prelude.{IfOk}
-use Rattle.b_ast.specs.declared.Formula.{Formula}
-use Rattle.b_expand.specs.Places.{brackets, raised_place, raised, moved}
+use Rattle.b_expand.specs.Places.{raised_place, raised, moved}
 use Rattle.b_expand.specs.Expansion.{tree_of}
-use Rattle.b_expand.specs.Filling.{Part, Insert, Filling, Form, Side, named, used_steps, argument_steps, called_steps, first_arguments, insert_of}
-use Rattle.b_expand.specs.Standing.{insert_at, means_in, params_in, argument_steps_in, scope_of, filling_in, form_in, side_in, parts_in, body_of, round_in, tree_in, raise, raise_link, raise_form, body_in, used_in, row_in, steps_in, steps_of_all, steps_of_link, steps_of_links, steps_of_form, steps_of_forms, steps_of_use, steps_of_call, means_at, params_at, steps_at}
+use Rattle.b_expand.specs.Filling.{Part, Filling, Form, Side, named, argument_steps, insert_of}
+use Rattle.b_expand.specs.Standing.{insert_at, means_in, params_in, argument_steps_in, scope_of, filling_in, form_in, side_in, parts_in, body_of, round_in, tree_in, raise, raise_link, raise_form, used_in, steps_in, steps_of_all, steps_of_link, steps_of_links, steps_of_form, steps_of_forms, steps_of_use, means_at, params_at, steps_at}
 use Rattle.b_expand.proofs.Indexing.{insert_unknown}
-use Rattle.b_expand.proofs.Texts.{called_row, plain_row, raised_named, named_use, ok_along, next_part, part_of_total, link_of_total, form_of_total, call_steps, use_steps, use_tree}
+use Rattle.b_expand.proofs.Texts.{called_row, plain_row, raised_named, named_use, ok_along, next_part, part_of_total, link_of_total, form_of_total, use_steps, use_tree}
 use Rattle.b_expand.proofs.expander.+fill.Goals as goal
 
 -- ---- lists

@@ -1,4 +1,4 @@
-use Rattle.std.proofs.Common.{◌≡◌, ℕ, ◌+◌, ◌*◌, take}
+use Rattle.std.proofs.Common.{◌≡◌, ◌+◌, ◌*◌, take}
 use Rattle.std.specs.Prelude.{option_map}
 use Rattle.b_expand.specs.Standing.{insert_at, called_in, trees_in, links_in, forms_in, steps_in, steps_of_all, steps_of_link, steps_of_links, steps_of_form, steps_of_forms, steps_of_use, steps_of_body, steps_of_call, params_in, means_in, argument_steps_in}
 use Rattle.b_expand.specs.Filling.{named_steps}

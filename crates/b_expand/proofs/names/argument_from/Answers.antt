@@ -1,5 +1,4 @@
-use Rattle.std.proofs.Common.{◌≡◌, Option, Some, None, ap}
-use Rattle.b_expand.specs.Filling.{Part}
+use Rattle.std.proofs.Common.{None}
 use Rattle.b_expand.specs.Standing.{means_at}
 use Rattle.b_expand.proofs.Texts.{tree_from, steps_from, none_from}
 use Rattle.b_expand.proofs.names.argument_from.Goals as goal
