@@ -5,4 +5,4 @@ mod places;
 #[cfg(test)]
 mod tests;
 
-pub use places::{Index, index_of};
+pub use places::{Index, TableIndex, index_of, index_of_names, table_index};

@@ -24,7 +24,8 @@ mod values;
 pub use gathering::{collect, first_result, next_result, sequence};
 pub use numbers::number;
 pub use relations::{
-    asks_onto, asks_total, asks_whole, has_shape, is_domain, is_range, may_begin, may_end, part,
+    asks_onto, asks_total, asks_whole, first_part, has_shape, is_domain, is_range, may_begin,
+    may_end, part, second_part,
 };
 pub use sets::{family, gather, given, set, word};
 pub use tests_of_values::{belongs, compare, is_between};

@@ -10,7 +10,8 @@ use b_tree::{Family, SetOperator};
 use b_values::{Value, make_set, same_value};
 use std::alloc::{AllocError, Global};
 
-fn first_part(v: &Value) -> &Value
+/// The first part of a couple; of another value that value.
+pub fn first_part(v: &Value) -> &Value
     ensures { result.now ≡ first v.now }
 {
     match v {
@@ -19,7 +20,8 @@ fn first_part(v: &Value) -> &Value
     }
 }
 
-fn second_part(v: &Value) -> &Value
+/// The second part of a couple; of another value that value.
+pub fn second_part(v: &Value) -> &Value
     ensures { result.now ≡ second v.now }
 {
     match v {

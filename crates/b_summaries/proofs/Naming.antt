@@ -2,14 +2,19 @@
 use borrow.Author.Tests.{ltb-false, ltb-true}
 use Rattle.std.proofs.Common.{◌≡◌, ℕ, zero, suc, ◌+◌, ◌++◌, ◌<◌, ◌≤◌, ◌⊎◌, inl, inr, Bool, true, false, not, cond, List, [], ◌∷◌, take, length, get_or, fold, rules, Option, Some, None, refl, sym, ap, ◌∙◌, subst, arith}
 use Rattle.std.specs.Prelude.{IsSome, IfSome, IfOk, Result, slice_get, option_map, option_and_then, bytes_eq, position, nat_lt, min}
+use Rattle.std.specs.Option.{option_copied}
 use Rattle.std.specs.List.{position_or_len, prefix_len}
+use denote.Ref.{Bor}
 use Rattle.b_ast.specs.declared.machine.Def.{Def}
 use Rattle.b_expand.specs.Expansion.{all_of}
 use Rattle.b_summaries.specs.declared.summary.Summary.{Summary}
 use Rattle.b_summaries.specs.declared.summary.Told.{Told}
-use Rattle.b_summaries.specs.Standing.{place_below, meaning_in, AreTold, used_at}
+use Rattle.b_names.specs.declared.places.Index.{Index}
+use Rattle.b_names.specs.declared.places.TableIndex.{TableIndex}
+use Rattle.b_names.specs.Index.{IsIndexOf, IsIndexOfNames, AreOfParameters}
+use Rattle.b_summaries.specs.Standing.{IsIndexed, ArePlaces, place_below, meaning_in, AreTold, used_at}
 use Rattle.b_summaries.specs.Making.{substituted}
-use Rattle.b_summaries.specs.Summaries.{Meaning, Meanings, Reading, Form, row_of, applied, plain_row, row, first_arguments, later_forms, first_of, with_definition, meaning_of, meanings, told_body}
+use Rattle.b_summaries.specs.Summaries.{Meaning, Meanings, Reading, Form, row_of, applied, plain_row, row, first_arguments, later_forms, first_of, with_definition, meaning_of, meanings, told_body, place_of}
 
 -- what a name means stays
 keeps : (table : List Def) (m : Meanings) (ds : List Def) (x : List ℕ) (u : Meaning) → m x ≡ Some u → fold (with_definition table) m ds x ≡ Some u
@@ -236,3 +241,61 @@ get_there (y ∷ xs) (suc i) x h e = get_there xs i x (omega arith) e
 pub use_gives : {E : Type 0} (table : List Def) (known : List (Option Told)) → AreTold table known → (i : ℕ) (t : Option Told) → slice_get known i ≡ Some t → (depth : ℕ) (us : List Summary) (res : Result (Option Summary) E)
     → IfOk res (λ o. o ≡ option_and_then (λ t. substituted t depth us) t) → IfOk res (λ o. o ≡ used_at (meaning_in table i) depth us)
 use_gives table known h i t e depth us res k = subst (λ (z : Option Summary). IfOk res (λ o. o ≡ z)) (sym (use_told table known h i t e depth us)) k
+
+-- ---- indexes
+
+-- an index of a table is one of its definitions
+pub definitions_known : (table : List Def) (index : TableIndex) → IsIndexed table index → IsIndexOf table index.definitions
+unfolding IsIndexed
+definitions_known table index h = h.definitions
+
+parameters_at : (ps : List Index) (k : ℕ) (o : Option Index) → o ≡ slice_get ps k → (d : Def) → ((i : Index) → slice_get ps k ≡ Some i → IsIndexOfNames d.params i) → k < length ps → ArePlaces d.params o
+unfolding ArePlaces
+parameters_at ps k (Some i) e d h w = h i (sym e)
+parameters_at ps k None e d h w = absurd (there ps k (sym e) w)
+  where
+    there : (ps : List Index) (k : ℕ) → slice_get ps k ≡ None → k < length ps → ⊥
+    there [] k e w = omega arith
+    there (p ∷ ps) zero e w = absurd (cc)
+    there (p ∷ ps) (suc k) e w = there ps k e (omega arith)
+
+of_this : (ds : List Def) (k : ℕ) (d : Def) → slice_get ds k ≡ Some d → (i : Index) → IfSome (slice_get ds k) (λ d. IsIndexOfNames d.params i) → IsIndexOfNames d.params i
+of_this ds k d at i h = subst (λ (o : Option Def). IfSome o (λ d. IsIndexOfNames d.params i)) at h
+
+within_table : (ds : List Def) (k : ℕ) (d : Def) → slice_get ds k ≡ Some d → k < length ds
+within_table [] k d h = absurd (none k h)
+  where
+    none : (k : ℕ) → slice_get [] k ≡ Some d → ⊥
+    none zero h = absurd (cc)
+    none (suc k) h = absurd (cc)
+within_table (e ∷ ds) zero d h = omega arith
+within_table (e ∷ ds) (suc k) d h = let w = within_table ds k d h in omega arith
+
+-- the index of the parameters of a definition at a place
+pub parameters_known : (table : List Def) (index : TableIndex) → IsIndexed table index → (k : ℕ) (d : Def) → slice_get table k ≡ Some d → (ps : List Index) → ps ≡ index.parameters → (o : Option Index) → o ≡ slice_get ps k → ArePlaces d.params o
+unfolding IsIndexed AreOfParameters
+parameters_known table index h k d at ps same o e =
+    let w = within_table table k d at in
+    let m = ap length same in
+    let n = h.as_many in
+    parameters_at ps k o e d (λ i f. of_this table k d at i (h.parameters k i (sym (ap (λ (ps : List Index). slice_get ps k) same) ∙ f))) (omega arith)
+
+-- the index of a text's parameters
+index_known : (params : List (List ℕ)) (i : Index) → ArePlaces params (Some i) → IsIndexOfNames params i
+unfolding ArePlaces
+index_known params i h = h
+
+pub places_known : (params : List (List ℕ)) (o : Option (Bor Index)) (i : Bor Index) → o ≡ Some i → ArePlaces params (option_copied o) → IsIndexOfNames params i.now
+places_known params o i e h = index_known params i.now (subst (λ (o : Option (Bor Index)). ArePlaces params (option_copied o)) e h)
+
+none_known : (params : List (List ℕ)) (x : List ℕ) → ArePlaces params None → None ≡ place_of params x
+unfolding ArePlaces
+none_known params x h = ap (λ (ps : List (List ℕ)). place_of ps x) (sym h)
+
+pub no_places : (params : List (List ℕ)) (o : Option (Bor Index)) → o ≡ None → (x : List ℕ) → ArePlaces params (option_copied o) → None ≡ place_of params x
+no_places params o e x h = none_known params x (subst (λ (o : Option (Bor Index)). ArePlaces params (option_copied o)) e h)
+
+-- a text without parameters has none
+pub none_placed : ArePlaces [] None
+unfolding ArePlaces
+none_placed = refl

@@ -221,6 +221,10 @@ module _ (table : List Def) (means : tree.Meanings) (others : summed.Meanings) (
       (subst (λ (q : summed.Side). IsSide here fs (tree.link_step (record { operator = x.operator; at = x.at; operand = tree.reading table means x.operand })) q) (sym (fold-roll-Link summed.Form summed.Reading summed.Side summed.after_step (summed.formula_step table ps others) summed.link_step x))
       (link_says x h))
 
+  -- a reading by summaries says what is known of the trees of a reading
+  pub reading_says : (t : Formula) → IsReading here fs (tree.reading table means t) (summed.reading table ps others t)
+  reading_says t = by_layers PA PF PL on_after on_formula on_link t
+
   -- a summary says what is known of the tree that a text stands for
   pub summary_says : (t : Formula) → option_and_then (λ u. summary_value u r fs) (summed.summary table ps others t) ≡ known (tree.expanded table means (record { round = r; params = ps; trees = es }) t)
   summary_says t = (by_layers PA PF PL on_after on_formula on_link t).tree
@@ -282,7 +286,7 @@ module _ (table : List Def) (means : tree.Meanings) (others : summed.Meanings) (
   same_if m n h false = tt
 
   -- one more definition
-  same_with : (d : Def) → Agree (tree.with_definition table means d) (summed.with_definition table others d)
+  pub same_with : (d : Def) → Agree (tree.with_definition table means d) (summed.with_definition table others d)
   same_with d x =
       same_first (means x) (others x) (agree x) (cond (bytes_eq x d.name) (Some (tree.meaning_of table means d.params d.body)) None) (cond (bytes_eq x d.name) (Some (summed.meaning_of table others d.params d.body)) None)
       (same_if (tree.meaning_of table means d.params d.body) (summed.meaning_of table others d.params d.body) (same_body d.params d.body) (bytes_eq x d.name))

@@ -112,7 +112,7 @@ abbrev pub by_sort : Formula → Sorted → Option Facts
 by_sort e o = option_map (λ s. facts_from s (size_of e)) o
 
 -- the trees with a sort, and what is known of them
-sorted_known : (os : List (Option Formula)) → Beside (λ es fs. all_of (map facts_of es) ≡ Some fs) (all_of (map tree.sorted os)) (all_of (map known os))
+pub sorted_known : (os : List (Option Formula)) → Beside (λ es fs. all_of (map facts_of es) ≡ Some fs) (all_of (map tree.sorted os)) (all_of (map known os))
 sorted_known [] = refl
 sorted_known (None ∷ os) = tt
 sorted_known (Some e ∷ os) = go (sort_of e) refl (all_of (map tree.sorted os)) (all_of (map known os)) (sorted_known os)
@@ -127,17 +127,17 @@ sorted_known (Some e ∷ os) = go (sort_of e) refl (all_of (map tree.sorted os))
 
 module _ (s : tree.Scope) (fs : List Facts) where
   -- what is known of all
-  same_all : (xs : List (tree.Expands Formula)) (us : List (Option Summary)) → Pairwise (Says s fs) xs us → all_of (map (valued s fs) us) ≡ all_of (map known (map (λ (a : tree.Expands Formula). a s) xs))
+  pub same_all : (xs : List (tree.Expands Formula)) (us : List (Option Summary)) → Pairwise (Says s fs) xs us → all_of (map (valued s fs) us) ≡ all_of (map known (map (λ (a : tree.Expands Formula). a s) xs))
   same_all [] [] h = refl
   same_all [] (u ∷ us) h = absurd h
   same_all (a ∷ xs) [] h = absurd h
   same_all (a ∷ xs) (u ∷ us) h = ap (λ (o : Option Facts). both (λ x xs. x ∷ xs) o (all_of (map (valued s fs) us))) h.0 ∙ ap (both (λ x xs. x ∷ xs) (known (a s))) (same_all xs us h.1)
 
   -- what summaries say, one by one
-  abbrev each_value : Option (List Summary) → Option (List Facts)
+  abbrev pub each_value : Option (List Summary) → Option (List Facts)
   each_value o = option_and_then (λ us. all_of (map (λ u. summary_value u s.round fs) us)) o
 
-  each_says : (us : List (Option Summary)) → each_value (all_of us) ≡ all_of (map (valued s fs) us)
+  pub each_says : (us : List (Option Summary)) → each_value (all_of us) ≡ all_of (map (valued s fs) us)
   each_says [] = refl
   each_says (None ∷ us) = refl
   each_says (Some u ∷ us) = go (all_of us) ∙ ap (both (λ x xs. x ∷ xs) (summary_value u s.round fs)) (each_says us)

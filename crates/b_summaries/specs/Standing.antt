@@ -1,13 +1,15 @@
 -- What the record of a text says: the table, what is told of its first definitions, and the parameters of the text.
-use Rattle.std.specs.Prelude.{◌≡◌, ℕ, nat_lt, if◌then◌else◌, List, length, map, take, Option, Some, None, slice_get, option_map, option_and_then, Result, Ok, Err}
+use Rattle.std.specs.Prelude.{◌≡◌, ℕ, nat_lt, if◌then◌else◌, List, [], length, map, take, Option, Some, None, slice_get, option_map, option_and_then, Result, Ok, Err}
 use Rattle.b_ast.specs.declared.Sort.{Sort}
 use Rattle.b_ast.specs.declared.machine.Def.{Def}
 use Rattle.b_ast.specs.declared.Formula.{Formula}
 use Rattle.b_ast.specs.declared.FormulaText.{FormulaText}
 use Rattle.b_ast.specs.declared.Link.{Link}
 use Rattle.b_ast.specs.declared.After.{After}
+use Rattle.std.specs.Option.{option_copied}
 use Rattle.b_names.specs.declared.places.Index.{Index}
-use Rattle.b_names.specs.Index.{IsIndexOf}
+use Rattle.b_names.specs.declared.places.TableIndex.{TableIndex}
+use Rattle.b_names.specs.Index.{IsIndexOfNames, IsTableIndex}
 use Rattle.b_expand.specs.Answers.{text_of}
 use Rattle.b_expand.specs.Expansion.{all_of}
 use Rattle.b_expand.specs.declared.faults.Unfit.{Unfit}
@@ -22,9 +24,14 @@ use Rattle.b_summaries.specs.Making.{substituted}
 use Rattle.b_summaries.specs.Summaries as summed
 use Rattle.b_summaries.specs.Summaries.{Meaning, Meanings, Reading, Form, Side}
 
--- the index answers for every name as a search through the table does
-unfoldable pub IsIndexed : List Def → Index → Type 0
-IsIndexed table index = IsIndexOf table index
+-- the index answers for every name as a search through the table does, and through the parameters of each definition
+unfoldable pub IsIndexed : List Def → TableIndex → Type 0
+IsIndexed table index = IsTableIndex table index
+
+-- the index is that of a text's parameters, and there is none without parameters
+unfoldable pub ArePlaces : List (List ℕ) → Option Index → Type 0
+ArePlaces params None = params ≡ []
+ArePlaces params (Some index) = IsIndexOfNames params index
 
 -- what a use of the definition at a place gives, which may use those before it
 abbrev pub meaning_in : List Def → ℕ → Option Meaning
@@ -34,10 +41,11 @@ meaning_in table i = option_map (λ d. summed.meaning_of table (summed.meanings 
 unfoldable pub AreTold : List Def → List (Option Told) → Type 0
 AreTold table known = (i : ℕ) (t : Option Told) → slice_get known i ≡ Some t → option_map (λ m. m.told) (meaning_in table i) ≡ Some t
 
--- the index and what is told are those of the table
+-- the index and what is told are those of the table, and the places those of the parameters
 pub record IsReady (t : Text) : Type 0 where
   pub indexed : IsIndexed t.table.now t.index.now
   pub told : AreTold t.table.now t.known.now
+  pub places : ArePlaces t.params.now (option_copied t.places)
 
 abbrev pub means_in : Text → Meanings
 means_in t = summed.meanings t.table.now (take (length t.known.now) t.table.now)

@@ -14,7 +14,7 @@ use b_ast::machine::{Def, DefTable};
 use b_ast::{Expr, Formula, FormulaText, Pred, Sort};
 use b_expand::places::refused_at;
 use b_expand::{Unexpanded, Unfit, expanded};
-use b_names::{Index, index_of};
+use b_names::{TableIndex, table_index};
 use sqlite_items::Items;
 use std::alloc::{AllocError, Global};
 
@@ -28,15 +28,15 @@ pub const NODE_LIMIT: u64 = 1_000_000;
 #[derive(Drop)]
 pub struct Definitions<'a> {
     pub table: &'a DefTable,
-    index: Index,
-    known: Items<Option<Told>>,
+    pub index: TableIndex,
+    pub known: Items<Option<Told>>,
 }
 
 // The index of the names of a table.
-fn indexed(alloc: Global, table: &[Def]) -> Result<Index, AllocError>
+fn indexed(alloc: Global, table: &[Def]) -> Result<TableIndex, AllocError>
     ensures { IfOk result (IsIndexed table.now) }
 {
-    index_of(alloc, table)
+    table_index(alloc, table)
 }
 
 /// What formulas are judged by under a table of definitions: made once for a table, in one walk through each body.
@@ -68,6 +68,7 @@ pub fn measured(
         index: &defs.index,
         known: defs.known.as_slice(),
         params: &[],
+        places: None,
     };
     let summary = walk(formula, alloc, &text)?;
     Ok(facts_of(&summary))
@@ -86,7 +87,7 @@ pub fn expand(
     match measured(alloc, defs, formula) {
         Ok(facts) => match verdict(facts) {
             Ok(sort) => built(alloc, defs.table, formula, sort),
-            Err(why) => Err(Unexpanded::Refused(why, refused_at(formula, &defs.index))),
+            Err(why) => Err(Unexpanded::Refused(why, refused_at(formula, &defs.index.definitions))),
         },
         Err(_) => Err(Unexpanded::Memory),
     }

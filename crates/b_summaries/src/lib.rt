@@ -2,15 +2,15 @@
 #![tactic(auto)]
 
 mod expanding;
-mod gathering;
+pub mod gathering;
 mod lists;
-mod making;
-mod sizes;
+pub mod making;
+pub mod sizes;
 mod sorts;
 mod summary;
-mod tables;
-mod texts;
-mod walk;
+pub mod tables;
+pub mod texts;
+pub mod walk;
 
 pub use expanding::{BRACKET_LIMIT, Definitions, NODE_LIMIT, definitions_of, expand, measured};
 pub use summary::{Asked, Entry, Facts, Kind, Parts, Share, Size, Summary, Told};

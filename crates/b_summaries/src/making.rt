@@ -150,7 +150,7 @@ pub fn fitted(asked: Asked, kind: Kind, parts: Parts) -> Result<Option<Parts>, A
     }
 }
 
-fn fit(asked: Asked, tree: Option<Summary>) -> Result<Option<Parts>, AllocError>
+pub fn fit(asked: Asked, tree: Option<Summary>) -> Result<Option<Parts>, AllocError>
     ensures { IfOk result (λ o. o ≡ spec.fit asked tree) }
 {
     match tree {
@@ -162,7 +162,7 @@ fn fit(asked: Asked, tree: Option<Summary>) -> Result<Option<Parts>, AllocError>
     }
 }
 
-fn joined(some: Option<Parts>, more: Option<Parts>) -> Result<Option<Parts>, AllocError>
+pub fn joined(some: Option<Parts>, more: Option<Parts>) -> Result<Option<Parts>, AllocError>
     ensures { IfOk result (λ o. o ≡ both spec.join some more) }
 {
     match some {

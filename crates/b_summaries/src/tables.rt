@@ -1,8 +1,9 @@
 //! What is told of the definitions of a table.
 ghost use Rattle.std.specs.Prelude.{◌≡◌, [], length, take, IfOk, option_and_then};
+ghost use Rattle.std.specs.Option.{option_copied};
 ghost use Rattle.b_summaries.specs.Summaries as spec;
 ghost use Rattle.b_summaries.specs.Sizes as sizes;
-ghost use Rattle.b_summaries.specs.Standing.{IsIndexed, IsReady, AreTold, means_in};
+ghost use Rattle.b_summaries.specs.Standing.{IsIndexed, IsReady, ArePlaces, AreTold, means_in};
 ghost use Rattle.b_expand.specs.Expansion.{both};
 ghost use Rattle.b_summaries.specs.Values.{facts_from, kind_value, parts_value, summary_value};
 
@@ -13,7 +14,7 @@ use crate::texts::Text;
 use crate::walk::walk;
 use b_ast::Sort;
 use b_ast::machine::{Def, DefBody};
-use b_names::Index;
+use b_names::{Index, TableIndex};
 use sqlite_items::Items;
 use std::alloc::{AllocError, Global};
 
@@ -40,11 +41,13 @@ fn told_next(
     def: &Def,
     alloc: Global,
     table: &[Def],
-    index: &Index,
+    index: &TableIndex,
     known: &[Option<Told>],
+    places: Option<&Index>,
 ) -> Result<Option<Told>, AllocError>
     requires indexed { IsIndexed table.now index.now }
     requires told { AreTold table.now known.now }
+    requires places { ArePlaces def.now.params (option_copied places) }
     ensures { IfOk result (λ o. o ≡ spec.told_body table.now def.now.params (spec.meanings table.now (take (length known.now) table.now)) def.now.body) }
 {
     let text = Text {
@@ -52,6 +55,7 @@ fn told_next(
         index,
         known,
         params: def.params.as_slice(),
+        places,
     };
     told_body(&def.body, alloc, &text)
 }
@@ -61,7 +65,7 @@ fn told_next(
 pub fn told_all(
     alloc: Global,
     table: &[Def],
-    index: &Index,
+    index: &TableIndex,
 ) -> Result<Items<Option<Told>>, AllocError>
     requires { IsIndexed table.now index.now }
     ensures told { IfOk result (λ known. AreTold table.now known) }
@@ -69,15 +73,15 @@ pub fn told_all(
 {
     let mut known = Items::new(alloc);
     for def in table {
-        let told = told_next(def, alloc, table, index, known.as_slice())?;
+        let places = sqlite_items::at(index.parameters.as_slice(), known.len());
+        let told = told_next(def, alloc, table, index, known.as_slice(), places)?;
         known.push(told)?;
     }
     Ok(known)
 }
 
-// What parts are together that no argument adds to.
-
-fn parts_alone(parts: &Parts) -> Option<Size>
+/// What parts are together that no argument adds to.
+pub fn parts_alone(parts: &Parts) -> Option<Size>
     ensures { result ≡ parts_value parts.now 0 [] }
 {
     match parts.entries.as_slice() {

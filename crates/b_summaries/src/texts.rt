@@ -11,7 +11,7 @@ use crate::summary::{Summary, Told};
 use b_ast::machine::Def;
 use b_ast::{After, Bound, Formula, Link, Place};
 use b_expand::is_comma;
-use b_names::Index;
+use b_names::{Index, TableIndex};
 use sqlite_items::Items;
 use std::alloc::{AllocError, Global};
 
@@ -21,23 +21,25 @@ pub struct Text<'a> {
     /// The whole table.
     pub table: &'a [Def],
     /// The index of the whole table.
-    pub index: &'a Index,
+    pub index: &'a TableIndex,
     /// What is told of its first definitions, which the text may use; None for one that no use can be right of.
     pub known: &'a [Option<Told>],
     /// The parameters of the text.
     pub params: &'a [Items<u8>],
+    /// Their index, if there are any.
+    pub places: Option<&'a Index>,
 }
 
-// The place of the first definition of a name in the whole table.
-fn definition_of(text: &Text<'_>, name: &[u8]) -> Option<usize>
+/// The place of the first definition of a name in the whole table.
+pub fn definition_of(text: &Text<'_>, name: &[u8]) -> Option<usize>
     requires { IsIndexed text.now.table.now text.now.index.now }
     ensures { result ≡ position (λ d. bytes_eq name.now d.name) text.now.table.now }
 {
-    text.index.first(name)
+    text.index.definitions.first(name)
 }
 
-// The place, where it is one of so many first ones.
-fn known_place(place: Option<usize>, known: usize) -> Option<usize>
+/// The place, where it is one of so many first ones.
+pub fn known_place(place: Option<usize>, known: usize) -> Option<usize>
     ensures { result ≡ place_below known place }
 {
     match place {
@@ -47,10 +49,14 @@ fn known_place(place: Option<usize>, known: usize) -> Option<usize>
 }
 
 /// The place of a parameter: of equal parameters the first counts.
-pub fn place_of(params: &[Items<u8>], name: &[u8]) -> Option<usize>
-    ensures { result ≡ spec.place_of params.now name.now }
+pub fn place_of(text: &Text<'_>, name: &[u8]) -> Option<usize>
+    requires { IsReady text.now }
+    ensures { result ≡ spec.place_of text.now.params.now name.now }
 {
-    params.iter().position(|other| name == other.as_slice())
+    match text.places {
+        Some(index) => index.first(name),
+        None => None,
+    }
 }
 
 fn may_bind(text: &Text<'_>, name: &Bound) -> bool
@@ -58,7 +64,7 @@ fn may_bind(text: &Text<'_>, name: &Bound) -> bool
     ensures { result ≡ spec.may_bind text.now.table.now text.now.params.now name.now }
 {
     let name = name.name.as_slice();
-    definition_of(text, name).is_none() && place_of(text.params, name).is_none()
+    definition_of(text, name).is_none() && place_of(text, name).is_none()
 }
 
 /// Whether all names may be bound.
@@ -127,7 +133,7 @@ pub fn called(head: &Formula, text: &Text<'_>) -> Option<(u64, usize)>
 {
     match head {
         Formula::Name(at, x) => {
-            if place_of(text.params, x.as_slice()).is_some() {
+            if place_of(text, x.as_slice()).is_some() {
                 return None;
             }
             match meaning_of(text, x.as_slice()) {

@@ -244,7 +244,7 @@ fn walk_name(
     requires { IsReady text.now }
     ensures { IfOk result (λ o. o ≡ spec.named (spec.place_of text.now.params.now name.now) (means_in text.now name.now) at.depth) }
 {
-    match place_of(text.params, name) {
+    match place_of(text, name) {
         Some(i) => {
             let argument = parameter(alloc, i, at.depth)?;
             Ok(Some(argument))
@@ -353,9 +353,9 @@ fn used_with(
     }
 }
 
-// The arguments that a tree is in the brackets of a use.
+/// The arguments that a tree is in the brackets of a use.
 #[cycle(walk)]
-fn walk_arguments(
+pub fn walk_arguments(
     tree: &Formula,
     alloc: Global,
     text: &Text<'_>,

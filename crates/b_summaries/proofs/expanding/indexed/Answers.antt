@@ -4,4 +4,4 @@ use Rattle.b_summaries.proofs.expanding.indexed.Goals as goal
 -- an index of a table is one for a text of it
 pub returns : goal.returns
 unfolding IsIndexed
-returns c = c.index_of.ensures
+returns c = c.table_index.ensures
