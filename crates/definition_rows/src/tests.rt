@@ -1,6 +1,7 @@
 // Texts with definitions, and the canonical texts of what they stand for.
 use b_ast::machine::{Def, DefBody, DefTable, Subst};
 use b_ast::{Expr, Formula, FormulaText, Operator, Place, Pred, Sort};
+use b_definitions::{Disorder, arranged};
 use b_expand::places::refused_at;
 use b_expand::{
     ParseFault, ParseKind, Unexpanded, Unfit, brackets, deeper_place, expanded, expanded_operator,
@@ -8,7 +9,6 @@ use b_expand::{
 };
 use b_lex::lex;
 use b_names::index_of;
-use b_definitions::{Disorder, arranged};
 use b_parse_expr::{parse_formula, parse_formula_in_order, parse_formula_under, tree_of_text};
 use b_print::texts::{print_expr, print_pred};
 use b_summaries::{BRACKET_LIMIT, NODE_LIMIT, definitions_of, expand, measured};
@@ -106,6 +106,16 @@ fn written(alloc: Global, answer: Result<FormulaText, ParseFault>) -> Result<Vec
 fn shown(alloc: Global, defs: DefTable, text: &[u8]) -> Result<Vec<u8>, Fail> {
     let tokens = lex(alloc, text)?;
     written(alloc, parse_formula(alloc, text, &tokens, defs))
+}
+
+// Whether a text has that answer under these definitions.
+fn stands_for(alloc: Global, defs: DefTable, text: &str, wanted: &str) -> Result<(), Fail> {
+    let said = shown(alloc, defs, text.as_bytes())?;
+    if said.as_slice() == wanted.as_bytes() {
+        Ok(())
+    } else {
+        Err(Fail::from(text))
+    }
 }
 
 // Whether each line has the answer that stands at its end.
@@ -401,9 +411,7 @@ fn long_row_from_behind(rt: HostRuntime) -> Result<(), Fail> {
     ];
     for (first, text, wanted) in rows {
         let defs = doubling(alloc, first, "::#", 10000)?;
-        let defs = reversed(alloc, defs)?;
-        let said = shown(alloc, defs, text.as_bytes())?;
-        assert!(rt; said.as_slice() == wanted.as_bytes(), "{text}");
+        stands_for(alloc, reversed(alloc, defs)?, text, wanted)?;
     }
     Ok(())
 }
@@ -490,11 +498,10 @@ fn growing_arguments(rt: HostRuntime) -> Result<(), Fail> {
         (two, 30, "k(d30(1,2))", "1"),
     ];
     for (pattern, count, text, wanted) in rows {
-        let said = shown(alloc, growing(alloc, pattern, count)?, text.as_bytes())?;
-        assert!(rt; said.as_slice() == wanted.as_bytes(), "{text}");
+        let defs = growing(alloc, pattern, count)?;
+        stands_for(alloc, defs, text, wanted)?;
         let behind = reversed(alloc, growing(alloc, pattern, count)?)?;
-        let said = shown(alloc, behind, text.as_bytes())?;
-        assert!(rt; said.as_slice() == wanted.as_bytes(), "{text} from behind");
+        stands_for(alloc, behind, text, wanted)?;
     }
     Ok(())
 }
