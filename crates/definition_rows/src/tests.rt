@@ -107,6 +107,16 @@ fn shown(alloc: Global, defs: DefTable, text: &[u8]) -> Result<Vec<u8>, Fail> {
     written(alloc, parse_formula(alloc, text, &tokens, defs))
 }
 
+// Whether a text has that answer under these definitions.
+fn stands_for(alloc: Global, defs: DefTable, text: &str, wanted: &str) -> Result<(), Fail> {
+    let said = shown(alloc, defs, text.as_bytes())?;
+    if said.as_slice() == wanted.as_bytes() {
+        Ok(())
+    } else {
+        Err(Fail::from(text))
+    }
+}
+
 // Whether each line has the answer that stands at its end.
 fn answers(alloc: Global, rows: &str) -> Result<(), Fail> {
     for line in rows.lines() {
@@ -400,9 +410,7 @@ fn long_row_from_behind(rt: HostRuntime) -> Result<(), Fail> {
     ];
     for (first, text, wanted) in rows {
         let defs = doubling(alloc, first, "::#", 10000)?;
-        let defs = reversed(alloc, defs)?;
-        let said = shown(alloc, defs, text.as_bytes())?;
-        assert!(rt; said.as_slice() == wanted.as_bytes(), "{text}");
+        stands_for(alloc, reversed(alloc, defs)?, text, wanted)?;
     }
     Ok(())
 }
@@ -489,11 +497,10 @@ fn growing_arguments(rt: HostRuntime) -> Result<(), Fail> {
         (two, 30, "k(d30(1,2))", "1"),
     ];
     for (pattern, count, text, wanted) in rows {
-        let said = shown(alloc, growing(alloc, pattern, count)?, text.as_bytes())?;
-        assert!(rt; said.as_slice() == wanted.as_bytes(), "{text}");
+        let defs = growing(alloc, pattern, count)?;
+        stands_for(alloc, defs, text, wanted)?;
         let behind = reversed(alloc, growing(alloc, pattern, count)?)?;
-        let said = shown(alloc, behind, text.as_bytes())?;
-        assert!(rt; said.as_slice() == wanted.as_bytes(), "{text} from behind");
+        stands_for(alloc, behind, text, wanted)?;
     }
     Ok(())
 }
