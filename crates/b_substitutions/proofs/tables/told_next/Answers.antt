@@ -1,5 +1,4 @@
-use Rattle.std.proofs.Common.{ℕ, List, length, sym, ap, subst, ◌∙◌, arith}
-use Rattle.std.specs.Prelude.{slice_get}
+use Rattle.std.proofs.Common.{ℕ, List, length, refl, sym, subst, arith}
 use Rattle.std.specs.Option.{option_copied}
 use Rattle.b_summaries.specs.Standing.{ArePlaces}
 use Rattle.b_summaries.proofs.Naming.{parameters_known}
@@ -11,7 +10,6 @@ use Rattle.b_substitutions.proofs.tables.told_next.Goals as goal
 pub split_at-requires : goal.split_at-requires
 split_at-requires c =
     let w = place_there c.args.table.now c.args.table.now (length c.args.uses.now) c.args.def.now c.requires.there in
-    let n = c.len-count.ensures in
     let m = c.requires.all in
     omega arith
 
@@ -20,17 +18,17 @@ pub told_body-requires : goal.told_body-requires
 told_body-requires c = record {
   formulas = record {
     indexed = c.requires.indexed;
-    told = first_told c.args.table.now c.args.known.now c.requires.formulas c.len-count.result c.split_at.result.0.now c.split_at.ensures.front;
+    told = first_told c.args.table.now c.args.known.now c.requires.formulas (length c.args.uses.now) c.split_at.result.0.now c.split_at.ensures.front;
     places = subst (λ (ps : List (List ℕ)). ArePlaces ps (option_copied c.at-places.result)) (sym c.as_slice-params.ensures)
-        (parameters_known c.args.table.now c.args.index.now c.requires.indexed c.len-count.result c.args.def.now (ap (slice_get c.args.table.now) c.len-count.ensures ∙ c.requires.there)
+        (parameters_known c.args.table.now c.args.index.now c.requires.indexed (length c.args.uses.now) c.args.def.now c.requires.there
         c.as_slice-parameters.result.now c.as_slice-parameters.ensures (option_copied c.at-places.result) c.at-places.ensures);
   };
   told = c.requires.told;
-  many = front_many c.args.known.now c.args.table.now c.args.uses.now c.args.def.now c.requires.all c.requires.there c.len-count.result c.len-count.ensures c.split_at.result.0.now c.split_at.ensures.front;
+  many = front_many c.args.known.now c.args.table.now c.args.uses.now c.args.def.now c.requires.all c.requires.there (length c.args.uses.now) refl c.split_at.result.0.now c.split_at.ensures.front;
 }
 
 pub returns : goal.returns
 returns c =
     told_answer c.args.table.now (length c.split_at.result.0.now) (length c.args.uses.now)
-    (front_many c.args.known.now c.args.table.now c.args.uses.now c.args.def.now c.requires.all c.requires.there c.len-count.result c.len-count.ensures c.split_at.result.0.now c.split_at.ensures.front)
+    (front_many c.args.known.now c.args.table.now c.args.uses.now c.args.def.now c.requires.all c.requires.there (length c.args.uses.now) refl c.split_at.result.0.now c.split_at.ensures.front)
     c.args.def.now.params c.as_slice-params.result.now c.as_slice-params.ensures c.args.def.now.body c.told_body.result c.told_body.ensures
