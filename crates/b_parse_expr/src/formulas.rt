@@ -59,7 +59,7 @@ pub fn parse_formula_under(
 {
     match tree_of_text(alloc, text, tokens) {
         Ok(tree) => {
-            let answer = expand(alloc, defs, &tree);
+            let answer = expand(alloc, defs, tree);
             answer_of(answer, text.len() as u64)
         }
         Err(fault) => Err(fault),
