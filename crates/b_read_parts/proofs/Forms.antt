@@ -64,9 +64,9 @@ module _ (p : Place) (front back : List Piece) where
   assigns_unequal e xs es i a b n =
       nothing (IsAssignment p front back) e i
       (λ y q.
-        let xs_same : xs ≡ q.0.0 = names_unique front xs q.0.0 a q.1 in
-        let es_same : es ≡ q.0.1 = written_list_unique back es q.0.1 b q.2 in
-        n (ap length xs_same ∙ q.3 ∙ ap length (sym es_same)))
+      let xs_same : xs ≡ q.0.0 = names_unique front xs q.0.0 a q.1 in
+      let es_same : es ≡ q.0.1 = written_list_unique back es q.0.1 b q.2 in
+      n (ap length xs_same ∙ q.3 ∙ ap length (sym es_same)))
 
   pub chooses_from : (x : Bound) (t : Formula) → IsName front x → IsWritten back t → IsChoiceFrom p front back (tree.ChooseFrom p x t)
   chooses_from x t a b = ((x, t), a, b, refl)
@@ -169,10 +169,10 @@ module _ (front back : List Piece) where
   fixed_unlike e bs ls i a b n =
       nothing (AreFixed front back) e i
       (λ y q.
-        let bs_same : bs ≡ y.0 = names_unique front bs y.0 a q.1 in
-        let ls_same : ls ≡ q.0 = list_unique (cut_at word.And) IsLeftSide left_unique back ls q.0 b q.2.0 in
-        let like : same_names bs ls ≡ true = ap (λ z. same_names z ls) bs_same ∙ ap (same_names y.0) ls_same ∙ q.3 in
-        never_both (same_names bs ls) like n)
+      let bs_same : bs ≡ y.0 = names_unique front bs y.0 a q.1 in
+      let ls_same : ls ≡ q.0 = list_unique (cut_at word.And) IsLeftSide left_unique back ls q.0 b q.2.0 in
+      let like : same_names bs ls ≡ true = ap (λ z. same_names z ls) bs_same ∙ ap (same_names y.0) ls_same ∙ q.3 in
+      never_both (same_names bs ls) like n)
 
   pub fixed_found : (bs ls : List Bound) (es : List Formula) → IsNames front bs → AreLeftSides back ls → AreRightSides back es → same_names bs ls ≡ true → AreFixed front back (bs, es)
   fixed_found bs ls es a b c n = (ls, a, (b, c), n)

@@ -9,9 +9,7 @@ use crate::parts::{name, names, written, written_list};
 use b_ast::machine::Subst;
 use b_ast::{After, Bound, Formula, Place};
 use b_machine_grammar::words::{Separator, Word};
-use b_stretches::{
-    Follow, Stretch, Unread, cut, cut_at, first, is_word, stuck, stuck_behind,
-};
+use b_stretches::{Follow, Stretch, Unread, cut, cut_at, first, is_word, stuck, stuck_behind};
 use sqlite_items::Items;
 use std::alloc::Global;
 

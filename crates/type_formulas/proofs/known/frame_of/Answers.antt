@@ -14,15 +14,14 @@ loop-i-preserved c =
     let inside : c.loop-i.i - 1 < length c.args.known.now = let w = opening.within in let t = c.loop-i-test.true in omega arith in
     let before : c.loop-i.i ≡ c.loop-i.i - 1 + 1 = let t = c.loop-i-test.true in omega arith in
     let place : c.loop-i.i - 1 ≡ 0 + (c.loop-i.i - 1) = omega arith in
-    let same : c.as_slice.result.now ≡ c.index-known-i.result.name = c.as_slice.ensures ∙ ap (λ (b : NameFace). b.name) (sym c.index-known-i.is) in
-    (
+    let same : c.as_slice.result.now ≡ c.index-known-i.result.name = c.as_slice.ensures ∙ ap (λ (b : NameFace). b.name) (sym c.index-known-i.is) in (
       c.in_ok-put_name.field-0 && c.loop-i.invariant.0,
       opening_more (λ (k : NameFace). k.name) c.args.known.now 0 (c.loop-i.i - 1) c.index-known-i.result c.loop-i.meanings c.put_name.new.meanings c.loop-i.invariant.0 c.in_ok-put_name.field-0 (c.in_ok-put_name.field-0 && c.loop-i.invariant.0) inside c.index-known-i.is
-      (subst (λ k. IsOpening (λ (b : NameFace). b.name) c.args.known.now 0 k c.loop-i.meanings c.loop-i.invariant.0) before opening)
-      (λ x.
+          (subst (λ k. IsOpening (λ (b : NameFace). b.name) c.args.known.now 0 k c.loop-i.meanings c.loop-i.invariant.0) before opening)
+          (λ x.
           subst (λ p. meaning_in c.put_name.new.meanings x ≡ cond (bytes_eq x c.index-known-i.result.name) (Some (bound_at p)) (meaning_in c.loop-i.meanings x)) place
           (subst (λ n. meaning_in c.put_name.new.meanings x ≡ cond (bytes_eq x n) (Some (bound_at (c.loop-i.i - 1))) (meaning_in c.loop-i.meanings x)) same (c.in_ok-put_name.ensures.put x)))
-      (subst (λ n. c.in_ok-put_name.field-0 ≡ not (is_some (meaning_in c.loop-i.meanings n))) same c.in_ok-put_name.ensures.fresh) refl,
+          (subst (λ n. c.in_ok-put_name.field-0 ≡ not (is_some (meaning_in c.loop-i.meanings n))) same c.in_ok-put_name.ensures.fresh) refl,
     )
 
 pub returns : goal.returns

@@ -18,9 +18,9 @@ judged-requires-clause-forms c =
     let tree = c.args.tree.now in
     let same_parts : c.walk.new.next ≡ parts_in c.args.known.now c.args.tree.now = c.in_ok-whole.ensures.parts in
     let same_demands : c.as_slice.result.now ≡ demands_in c.args.known.now c.args.tree.now =
-        c.as_slice.ensures.value ∙ c.in_ok-whole.ensures.demands
-        ∙ ap (λ l. l ++ (said c.args.tree.now).demands (scope_of c.in_ok-frames.frames.items) (length c.args.known.now)) c.new-demands.ensures.items
-        ∙ ap (λ s. (said c.args.tree.now).demands s (length c.args.known.now)) c.in_ok-frames.ensures in
+    c.as_slice.ensures.value ∙ c.in_ok-whole.ensures.demands
+    ∙ ap (λ l. l ++ (said c.args.tree.now).demands (scope_of c.in_ok-frames.frames.items) (length c.args.known.now)) c.new-demands.ensures.items
+    ∙ ap (λ s. (said c.args.tree.now).demands s (length c.args.known.now)) c.in_ok-frames.ensures in
     subst (λ n. AreForms n (forms_in c.as_slice.result.now)) (sym same_parts) (subst (λ d. AreForms (parts_in known tree) (forms_in d)) (sym same_demands) (demands_within known tree))
 
 pub returns-clause-answer : goal.returns-clause-answer
@@ -29,9 +29,9 @@ returns-clause-answer c =
     let tree = c.args.tree.now in
     let same_parts : c.walk.new.next ≡ parts_in c.args.known.now c.args.tree.now = c.in_ok-whole.ensures.parts in
     let same_demands : c.as_slice.result.now ≡ demands_in c.args.known.now c.args.tree.now =
-        c.as_slice.ensures.value ∙ c.in_ok-whole.ensures.demands
-        ∙ ap (λ l. l ++ (said c.args.tree.now).demands (scope_of c.in_ok-frames.frames.items) (length c.args.known.now)) c.new-demands.ensures.items
-        ∙ ap (λ s. (said c.args.tree.now).demands s (length c.args.known.now)) c.in_ok-frames.ensures in
+    c.as_slice.ensures.value ∙ c.in_ok-whole.ensures.demands
+    ∙ ap (λ l. l ++ (said c.args.tree.now).demands (scope_of c.in_ok-frames.frames.items) (length c.args.known.now)) c.new-demands.ensures.items
+    ∙ ap (λ s. (said c.args.tree.now).demands s (length c.args.known.now)) c.in_ok-frames.ensures in
     let same_whole : c.in_ok-whole.whole ≡ whole_in c.args.known.now c.args.tree.now = c.in_ok-whole.ensures.whole in
     subst (λ w. IfOk c.judged.result (Answers 500 known (demands_in known tree) (parts_in known tree) w)) same_whole
     (subst (λ n. IfOk c.judged.result (Answers 500 known (demands_in known tree) n c.in_ok-whole.whole)) same_parts
