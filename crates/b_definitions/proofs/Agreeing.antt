@@ -1,7 +1,7 @@
 -- A tree stands for the same under meanings that agree on the definitions that it uses.
-use Rattle.std.proofs.Common.{◌≡◌, ◌==◌, ◌&&◌, ℕ, Bool, true, false, cond, List, [], ◌∷◌, ◌++◌, length, map, Option, Some, None, refl, sym, ap, subst, ◌∙◌}
-use Rattle.std.specs.Prelude.{option_and_then, option_map, is_some, position, bytes_eq, slice_get}
-use Rattle.std.specs.List.{AllByRecursion, list_all}
+use Rattle.std.proofs.Common.{◌≡◌, ◌==◌, ◌&&◌, ◌||◌, ℕ, Bool, true, false, not, cond, List, [], ◌∷◌, ◌++◌, length, map, Option, Some, None, refl, sym, ap, subst, ◌∙◌}
+use Rattle.std.specs.Prelude.{option_and_then, option_map, is_some, position, bytes_eq}
+use Rattle.std.specs.List.{AllByRecursion, list_all, list_any}
 use Rattle.b_ast.specs.declared.Place.{Place}
 use Rattle.b_ast.specs.declared.Bound.{Bound}
 use Rattle.b_ast.specs.declared.machine.Def.{Def}
@@ -12,9 +12,9 @@ use Rattle.b_ast.specs.declared.After.{After, roll-After, map-After, fold-roll-A
 use Rattle.b_ast.specs.declared.After.TheVariants as after
 use Rattle.b_ast.specs.declared.After.TheOpen.{Formula-F, Link-F, After-F}
 use Rattle.b_names.specs.Index.{place_of}
-use Rattle.b_expand.specs.Places.{deeper_place}
-use Rattle.b_expand.specs.Expansion.{Scope, Meaning, Meanings, Reading, Form, Side, Expands, tree_of, both, all_of, all_three, used, named, called, row, row_of, applied, plain_row, forms, links, trees, chain, chain_arguments, bound, expanded_operator, later_forms, first_arguments, plain, after_step, link_step, formula_step, reading, form_of, side_of, expanded}
-use Rattle.b_expand.proofs.PuttingNames.{looked, looks, stands_for}
+use Rattle.b_expand.specs.Places.{deeper_place, deeper_bound}
+use Rattle.b_expand.specs.Expansion.{Scope, Meaning, Meanings, Reading, Form, Side, Expands, tree_of, both, all_three, used, named, called, row, row_of, applied, plain_row, forms, links, trees, chain, bound, expanded_operator, later_forms, first_arguments, plain, after_step, link_step, formula_step, reading, form_of, side_of, expanded}
+use Rattle.b_expand.proofs.PuttingNames.{looks, stands_for}
 use Rattle.b_expand.proofs.Layers.{Below, BelowAfter, BelowLink, by_layers}
 use Rattle.b_definitions.specs.Uses as uses
 use Rattle.b_definitions.specs.Uses.{joined, listed, used_in, used_in_link, used_in_form}
@@ -27,6 +27,21 @@ all_left P (x ∷ xs) ys h = (h.0, all_left P xs ys h.1)
 pub all_right : (P : ℕ → Type 0) (xs ys : List ℕ) → AllByRecursion P (xs ++ ys) → AllByRecursion P ys
 all_right P [] ys h = h
 all_right P (x ∷ xs) ys h = all_right P xs ys h.1
+
+-- a test that one fails, all don't pass
+not_all : {X : Type 0} (q r : X → Bool) (xs : List X) → list_any q xs ≡ true → list_all (λ x. not (q x) && r x) xs ≡ false
+not_all q r [] h = absurd (cc)
+not_all q r (x ∷ xs) h = go (q x) (r x) h (not_all q r xs)
+  where
+    go : (a c : Bool) → (a || list_any q xs) ≡ true → (list_any q xs ≡ true → list_all (λ x. not (q x) && r x) xs ≡ false) → ((not a && c) && list_all (λ x. not (q x) && r x) xs) ≡ false
+    go true c k again = refl
+    go false true k again = again k
+    go false false k again = refl
+
+-- a definition's name can't be bound
+none_bound : (table : List Def) (s : Scope) (xs : List Bound) → uses.binds table xs ≡ true → bound table s xs ≡ None
+none_bound table s xs h =
+    ap (λ (b : Bool). cond b (Some (map (deeper_bound s.round) xs)) None) (not_all (λ (x : Bound). is_some (place_of table x.name)) (λ (x : Bound). not (is_some (position (bytes_eq x.name) s.params))) xs h)
 
 module _ (table : List Def) (means others : Meanings) (P : ℕ → Type 0) (agree : (x : List ℕ) → AllByRecursion P (listed (place_of table x)) → means x ≡ others x)
     (round : ℕ) (ps : List (List ℕ)) (ts : List Formula) (many : length ts ≡ length ps) where
@@ -202,6 +217,25 @@ module _ (table : List Def) (means others : Meanings) (P : ℕ → Type 0) (agre
       let k = name_tree at x h (is_some (position (bytes_eq x) ps)) refl in
       record { calls = name_called at x h (is_some (position (bytes_eq x) ps)) refl; tree = k; arguments = ap (λ (o : Option Formula). o ∷ []) k })
 
+  -- ---- bound names
+
+  -- where a definition's name is bound, no form is there
+  one_bound : (f : List Bound → Formula → Formula) (xs : List Bound) (o p : Option Formula) (us : List ℕ) → (AllByRecursion P us → o ≡ p) → AllByRecursion P (uses.unless (uses.binds table xs) us)
+      → (b : Bool) → uses.binds table xs ≡ b → both f (bound table s xs) o ≡ both f (bound table s xs) p
+  one_bound f xs o p us h k true e =
+      let none : bound table s xs ≡ None = none_bound table s xs e in
+      ap (λ (z : Option (List Bound)). both f z o) none ∙ sym (ap (λ (z : Option (List Bound)). both f z p) none)
+  one_bound f xs o p us h k false e = ap (λ (o : Option Formula). both f (bound table s xs) o) (h (subst (λ (b : Bool). AllByRecursion P (uses.unless b us)) e k))
+
+  two_bound : (f : List Bound → Formula → Formula → Formula) (xs : List Bound) (o p q r : Option Formula) (us vs : List ℕ) → (AllByRecursion P us → o ≡ p) → (AllByRecursion P vs → q ≡ r)
+      → AllByRecursion P (uses.unless (uses.binds table xs) (us ++ vs)) → (b : Bool) → uses.binds table xs ≡ b → all_three f (bound table s xs) o q ≡ all_three f (bound table s xs) p r
+  two_bound f xs o p q r us vs h i k true e =
+      let none : bound table s xs ≡ None = none_bound table s xs e in
+      ap (λ (z : Option (List Bound)). all_three f z o q) none ∙ sym (ap (λ (z : Option (List Bound)). all_three f z p r) none)
+  two_bound f xs o p q r us vs h i k false e =
+      let all = subst (λ (b : Bool). AllByRecursion P (uses.unless b (us ++ vs))) e k in
+      three_same f _ _ _ _ _ _ refl (h (all_left P us vs all)) (i (all_right P us vs all))
+
   -- ---- formulas, layer by layer
 
   on_formula : (x : Formula-F After Formula Link) → Below PA PF PL x → PF (roll-Formula x)
@@ -220,11 +254,17 @@ module _ (table : List Def) (means others : Meanings) (P : ℕ → Type 0) (agre
   on_formula (Formula-F.Call at f us) h = joint (Formula-F.Call at f us) (λ k. alone_same _ _ (ap (option_map (formula.Call (deeper_place round at) f)) (each_tree us h k)))
   on_formula (Formula-F.Set at us) h = joint (Formula-F.Set at us) (λ k. alone_same _ _ (ap (option_map (formula.Set (deeper_place round at))) (each_tree us h k)))
   on_formula (Formula-F.Sequence at us) h = joint (Formula-F.Sequence at us) (λ k. alone_same _ _ (ap (option_map (formula.Sequence (deeper_place round at))) (each_tree us h k)))
-  on_formula (Formula-F.Comprehension at xs p) h = joint (Formula-F.Comprehension at xs p) (λ k. alone_same _ _ (ap (λ (o : Option Formula). both (formula.Comprehension (deeper_place round at)) (bound table s xs) o) (h k).tree))
-  on_formula (Formula-F.Quantified at q xs p) h = joint (Formula-F.Quantified at q xs p) (λ k. alone_same _ _ (ap (λ (o : Option Formula). both (formula.Quantified (deeper_place round at) q) (bound table s xs) o) (h k).tree))
+  on_formula (Formula-F.Comprehension at xs p) h =
+      joint (Formula-F.Comprehension at xs p) (λ k.
+      alone_same _ _ (one_bound (formula.Comprehension (deeper_place round at)) xs ((reading table means p).tree s) ((reading table others p).tree s) (used_in table ps p) (λ k. (h k).tree) k (uses.binds table xs) refl))
+  on_formula (Formula-F.Quantified at q xs p) h =
+      joint (Formula-F.Quantified at q xs p) (λ k.
+      alone_same _ _ (one_bound (formula.Quantified (deeper_place round at) q) xs ((reading table means p).tree s) ((reading table others p).tree s) (used_in table ps p) (λ k. (h k).tree) k (uses.binds table xs) refl))
   on_formula (Formula-F.Collected at c xs p e) h =
       joint (Formula-F.Collected at c xs p e) (λ k.
-      alone_same _ _ (three_same (formula.Collected (deeper_place round at) c) _ _ _ _ _ _ refl (h.0 (all_left P (used_in table ps p) (used_in table ps e) k)).tree (h.1 (all_right P (used_in table ps p) (used_in table ps e) k)).tree))
+      alone_same _ _ (two_bound (formula.Collected (deeper_place round at) c) xs
+      ((reading table means p).tree s) ((reading table others p).tree s) ((reading table means e).tree s) ((reading table others e).tree s)
+      (used_in table ps p) (used_in table ps e) (λ k. (h.0 k).tree) (λ k. (h.1 k).tree) k (uses.binds table xs) refl))
   on_formula (Formula-F.If at p e f) h =
       joint (Formula-F.If at p e f) (λ k.
       let rest = all_right P (used_in table ps p) (used_in table ps e ++ used_in table ps f) k in

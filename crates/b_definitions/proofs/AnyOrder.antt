@@ -11,11 +11,11 @@ use Rattle.b_ast.specs.declared.machine.DefBody.TheVariants as body
 use Rattle.b_ast.specs.declared.Sort.TheVariants as sort
 use Rattle.b_ast.specs.declared.Formula.{Formula, fold-Formula}
 use Rattle.b_ast.specs.declared.Formula.TheVariants as formula
-use Rattle.b_ast.specs.declared.After.TheOpen.{Formula-F, Link-F, After-F}
+use Rattle.b_ast.specs.declared.After.TheOpen.{Formula-F}
 use Rattle.b_names.specs.Index.{place_of}
 use Rattle.b_expand.specs.Places.{deeper_place, deeper_bound}
 use Rattle.b_expand.specs.Expansion.{Scope, Meaning, Meanings, Reading, Form, Side, both, all_three, may_bind, bound, plain, after_step, link_step, formula_step, expanded, meaning_of, meanings, alone, expansion}
-use Rattle.b_definitions.specs.Uses.{listed, used_in, used_in_body, used_by, all_uses}
+use Rattle.b_definitions.specs.Uses.{listed, used_in, used_in_body, used_by}
 use Rattle.b_definitions.specs.Tables.{first_named, SameFirst}
 use Rattle.b_definitions.specs.Arranging.{ordered_from, is_ordered, IsArranged}
 use Rattle.b_definitions.specs.Meaning.{round, rounds, expansion_after, expansion_of, IsSettled}
@@ -144,7 +144,7 @@ module _ (table : List Def) (ordered : is_ordered table ≡ true) where
 
 module _ (old new : List Def) (same : (x : List ℕ) → first_named x new ≡ first_named x old) where
   -- they have definitions of the same names
-  defined_same : (x : List ℕ) → is_some (place_of old x) ≡ is_some (place_of new x)
+  pub defined_same : (x : List ℕ) → is_some (place_of old x) ≡ is_some (place_of new x)
   defined_same x = ap is_some (places old x) ∙ (both_there old x ∙ (sym (ap is_some (same x)) ∙ (sym (both_there new x) ∙ sym (ap is_some (places new x)))))
 
   may_bind_same : (s : Scope) (x : Bound) → may_bind old s x ≡ may_bind new s x

@@ -1,12 +1,12 @@
 -- A definition is asked for its body under as many trees as it has parameters, and nowhere else.
-use Rattle.std.proofs.Common.{◌≡◌, ℕ, Bool, true, false, ◌==◌, cond, List, [], ◌∷◌, length, map, Option, Some, None, refl, sym, ap, ◌∙◌}
+use Rattle.std.proofs.Common.{◌≡◌, ℕ, Bool, true, false, ◌==◌, cond, List, [], length, map, Option, Some, None, refl, ap, ◌∙◌}
 use Rattle.std.specs.Prelude.{option_and_then, option_map, is_some}
 use Rattle.b_ast.specs.declared.Place.{Place}
 use Rattle.b_ast.specs.declared.machine.Def.{Def}
 use Rattle.b_ast.specs.declared.Formula.{Formula, fold-Formula}
-use Rattle.b_ast.specs.declared.After.TheOpen.{Formula-F, Link-F, After-F}
+use Rattle.b_ast.specs.declared.After.TheOpen.{Formula-F}
 use Rattle.b_expand.specs.Places.{brackets}
-use Rattle.b_expand.specs.Expansion.{Scope, Meaning, Meanings, Reading, Form, Side, Expands, tree_of, of_sort, used_with, used, sorted, all_of, named, called, row, row_of, applied, both, forms, later_forms, plain, first_arguments, after_step, link_step, formula_step, reading, expanded}
+use Rattle.b_expand.specs.Expansion.{Scope, Meaning, Meanings, Reading, Form, Side, Expands, tree_of, of_sort, used_with, used, sorted, all_of, named, called, row, row_of, applied, both, forms, later_forms, plain, first_arguments, after_step, link_step, formula_step, expanded}
 
 -- a meaning that is asked in such scopes alone
 abbrev pub fitted : Meaning → Meaning

@@ -5,6 +5,7 @@ pub mod Fitting
 pub mod Agreeing
 pub mod Firsts
 pub mod AnyOrder
+pub mod Kept
 pub mod Parts
 pub mod SubstLayers
 pub mod NoCircle

@@ -1,10 +1,10 @@
 -- A table that can be arranged has no circle: along a circle the places of the arranged table would descend for ever.
-use Rattle.std.proofs.Common.{◌≡◌, ℕ, zero, suc, ◌+◌, ◌<◌, ◌==◌, ◌&&◌, ◌||◌, Bool, true, false, cond, List, [], ◌∷◌, ◌++◌, map, length, Option, Some, None, refl, sym, ap, subst, ◌∙◌, arith}
+use Rattle.std.proofs.Common.{◌≡◌, ℕ, zero, suc, ◌+◌, ◌<◌, ◌==◌, ◌||◌, Bool, true, false, cond, List, [], ◌∷◌, ◌++◌, map, length, Option, Some, None, refl, sym, ap, subst, ◌∙◌, arith}
 use Rattle.std.specs.Prelude.{IfSome, option_map, option_and_then, is_some, bytes_eq, position, slice_get, unwrap_or}
 use Rattle.std.specs.List.{AllByRecursion, list_any}
 use borrow.Author.Tests.{eqb-true}
 use Rattle.std.proofs.lemmas.Slice.Eq.{bytes_eq-Decides}
-use Rattle.b_ast.specs.declared.Place.{Place}
+use Rattle.b_ast.specs.declared.Bound.{Bound}
 use Rattle.b_ast.specs.declared.machine.Def.{Def}
 use Rattle.b_ast.specs.declared.machine.DefBody.{DefBody}
 use Rattle.b_ast.specs.declared.machine.DefBody.TheVariants as body
@@ -20,11 +20,11 @@ use Rattle.b_ast.specs.declared.machine.Step.{Step, roll-Step, fold-roll-Step}
 use Rattle.b_names.specs.Index.{place_of}
 use Rattle.b_expand.proofs.Layers.{Below, BelowAfter, BelowLink, by_layers}
 use Rattle.b_definitions.proofs.SubstLayers as layers
-use Rattle.b_definitions.specs.Uses.{joined, listed, meant, after_step, formula_step, link_step, used_in, used_in_link, used_in_form, used_in_all, in_part, subst_step, branch_step, case_step, step_step, used_in_subst, used_in_branch, used_in_case, used_in_step, used_in_body, used_by, all_uses, uses, leads, is_circle}
+use Rattle.b_definitions.specs.Uses.{joined, listed, meant, binds, unless, after_step, formula_step, link_step, used_in, used_in_link, used_in_form, used_in_all, subst_step, branch_step, case_step, step_step, used_in_subst, used_in_branch, used_in_case, used_in_step, used_in_body, used_by, all_uses, uses, leads, is_circle}
 use Rattle.b_definitions.specs.Tables.{first_named, SameFirst}
-use Rattle.b_definitions.specs.Arranging.{is_ordered, IsArranged, HasCircle, HasNoCircle}
+use Rattle.b_definitions.specs.Arranging.{is_ordered, IsArranged, HasNoCircle}
 use Rattle.b_definitions.proofs.Firsts.{first_place, places, named_there, both_there, place_within, standing}
-use Rattle.b_definitions.proofs.AnyOrder.{and_left, and_right, all_true, uses_before}
+use Rattle.b_definitions.proofs.AnyOrder.{and_left, and_right, all_true, defined_same, uses_before}
 
 -- an element of a mapped list
 mapped_at : {X Y : Type 0} (f : X → Y) (xs : List X) (i : ℕ) → slice_get (map f xs) i ≡ option_map f (slice_get xs i)
@@ -84,6 +84,16 @@ module _ (old new : List Def) (same : (x : List ℕ) → first_named x new ≡ f
   meant_pairs x true = tt
   meant_pairs x false = name_pairs x (place_of old x) (place_of new x) (sym (places old x)) (sym (places new x))
 
+  -- bound names are definitions' in both tables or in none
+  unless_pairs : (xs : List Bound) (is ks : List ℕ) → Pairs is ks → Pairs (unless (binds old xs) is) (unless (binds new xs) ks)
+  unless_pairs xs is ks p = go (binds old xs) (binds new xs) (λ i. list_any (λ x. defined_same old new same x.name i) xs)
+    where
+      go : (b c : Bool) → b ≡ c → Pairs (unless b is) (unless c ks)
+      go true true e = tt
+      go true false e = absurd (cc)
+      go false true e = absurd (cc)
+      go false false e = p
+
   module _ (ps : List (List ℕ)) where
     -- ---- what a tree uses in both tables
 
@@ -130,9 +140,11 @@ module _ (old new : List Def) (same : (x : List ℕ) → first_named x new ≡ f
     on_formula (Formula-F.Call at f us) h = joint (Formula-F.Call at f us) (each (used_in old ps) (used_in new ps) us h)
     on_formula (Formula-F.Set at us) h = joint (Formula-F.Set at us) (each (used_in old ps) (used_in new ps) us h)
     on_formula (Formula-F.Sequence at us) h = joint (Formula-F.Sequence at us) (each (used_in old ps) (used_in new ps) us h)
-    on_formula (Formula-F.Comprehension at xs p) h = joint (Formula-F.Comprehension at xs p) h
-    on_formula (Formula-F.Quantified at q xs p) h = joint (Formula-F.Quantified at q xs p) h
-    on_formula (Formula-F.Collected at c xs p e) h = joint (Formula-F.Collected at c xs p e) (two_pairs (used_in old ps p) (used_in new ps p) _ _ h.0 h.1)
+    on_formula (Formula-F.Comprehension at xs p) h = joint (Formula-F.Comprehension at xs p) (unless_pairs xs (used_in old ps p) (used_in new ps p) h)
+    on_formula (Formula-F.Quantified at q xs p) h = joint (Formula-F.Quantified at q xs p) (unless_pairs xs (used_in old ps p) (used_in new ps p) h)
+    on_formula (Formula-F.Collected at c xs p e) h =
+        joint (Formula-F.Collected at c xs p e)
+        (unless_pairs xs (used_in old ps p ++ used_in old ps e) (used_in new ps p ++ used_in new ps e) (two_pairs (used_in old ps p) (used_in new ps p) (used_in old ps e) (used_in new ps e) h.0 h.1))
     on_formula (Formula-F.If at p e f) h =
         joint (Formula-F.If at p e f) (two_pairs (used_in old ps p) (used_in new ps p) _ _ h.0 (two_pairs (used_in old ps e) (used_in new ps e) _ _ h.1 h.2))
 
@@ -201,8 +213,12 @@ module _ (old new : List Def) (same : (x : List ℕ) → first_named x new ≡ f
     on_subst (Subst-F.Choice at us) h = joint_subst (Subst-F.Choice at us) (each (used_in_subst old ps) (used_in_subst new ps) us h)
     on_subst (Subst-F.Case at e bs None) h = joint_subst (Subst-F.Case at e bs None) (with_labels e [] [] bs h.0 tt)
     on_subst (Subst-F.Case at e bs (Some u)) h = joint_subst (Subst-F.Case at e bs (Some u)) (with_labels e (used_in_subst old ps u) (used_in_subst new ps u) bs h.0 h.1)
-    on_subst (Subst-F.Any at xs p u) h = joint_subst (Subst-F.Any at xs p u) (two_pairs (used_in old ps p) (used_in new ps p) _ _ (tree_pairs p) h)
-    on_subst (Subst-F.Let at xs es u) h = joint_subst (Subst-F.Let at xs es u) (two_pairs (used_in_all old ps es) (used_in_all new ps es) _ _ (all_pairs es) h)
+    on_subst (Subst-F.Any at xs p u) h =
+        joint_subst (Subst-F.Any at xs p u)
+        (unless_pairs xs (used_in old ps p ++ used_in_subst old ps u) (used_in new ps p ++ used_in_subst new ps u) (two_pairs (used_in old ps p) (used_in new ps p) (used_in_subst old ps u) (used_in_subst new ps u) (tree_pairs p) h))
+    on_subst (Subst-F.Let at xs es u) h =
+        joint_subst (Subst-F.Let at xs es u)
+        (unless_pairs xs (used_in_all old ps es ++ used_in_subst old ps u) (used_in_all new ps es ++ used_in_subst new ps u) (two_pairs (used_in_all old ps es) (used_in_all new ps es) (used_in_subst old ps u) (used_in_subst new ps u) (all_pairs es) h))
     on_subst (Subst-F.Chain u ks) h = joint_subst (Subst-F.Chain u ks) (two_pairs (used_in_subst old ps u) (used_in_subst new ps u) _ _ h.0 (each (used_in_step old ps) (used_in_step new ps) ks h.1))
     on_subst (Subst-F.Use at x es) h =
         joint_subst (Subst-F.Use at x es) (two_pairs (listed (meant old ps x)) (listed (meant new ps x)) _ _ (meant_pairs x (is_some (position (bytes_eq x) ps))) (all_pairs es))

@@ -1,5 +1,5 @@
 -- Induction over substitutions, layer by layer.
-use Rattle.std.proofs.Common.{◌≡◌, List, [], ◌∷◌, map, subst, Option, Some, None}
+use Rattle.std.proofs.Common.{List, [], ◌∷◌, map, subst, Option, Some, None}
 use Rattle.std.specs.List.{AllByRecursion}
 use Rattle.b_ast.specs.declared.machine.Subst.{Subst, roll-Subst, map-Subst, ind-Subst}
 use Rattle.b_ast.specs.declared.machine.Subst.TheOpen.{Subst-F, Branch-F, CaseBranch-F, Step-F}

@@ -1,6 +1,7 @@
 -- Tables in the order of use.
 use Rattle.std.specs.Prelude.{◌≡◌, ℕ, ◌+◌, nat_lt, Bool, true, ◌&&◌, List, [], ◌∷◌, length, Result, Ok, Err}
 use Rattle.std.specs.List.{list_all}
+use Rattle.std.specs.List.Sorted.{IsPermutation}
 use Rattle.b_ast.specs.declared.machine.Def.{Def}
 use Rattle.b_ast.specs.declared.machine.DefTable.{DefTable}
 use Rattle.b_definitions.specs.Uses.{all_uses, is_circle}
@@ -19,6 +20,7 @@ is_ordered table = ordered_from 0 (all_uses table)
 
 -- the same definitions in the order of use: each name has the same first definition
 pub record IsArranged (old new : List Def) : Type 0 where
+  pub same : IsPermutation old new
   pub first : SameFirst old new
   pub many : length new ≡ length old
   pub ordered : is_ordered new ≡ true

@@ -1,6 +1,7 @@
 -- Which definitions of a table a body uses, and circles of uses.
 use Rattle.std.specs.Prelude.{ℕ, ◌==◌, Bool, false, ◌&&◌, if◌then◌else◌, List, [], ◌∷◌, ◌++◌, map, position, bytes_eq, slice_get, Option, Some, None, is_some, unwrap_or}
 use Rattle.std.specs.List.{list_any}
+use Rattle.b_ast.specs.declared.Bound.{Bound}
 use Rattle.b_ast.specs.declared.machine.Def.{Def}
 use Rattle.b_ast.specs.declared.machine.DefBody.{DefBody}
 use Rattle.b_ast.specs.declared.machine.DefBody.TheVariants as body
@@ -28,6 +29,14 @@ listed (Some i) = i ∷ []
 abbrev pub meant : List Def → List (List ℕ) → List ℕ → Option ℕ
 meant table ps x = if is_some (position (bytes_eq x) ps) then None else place_of table x
 
+-- whether one of some bound names is a definition's
+abbrev pub binds : List Def → List Bound → Bool
+binds table ns = list_any (λ n. is_some (place_of table n.name)) ns
+
+-- a form that binds a definition's name is no sentence, and uses nothing
+abbrev pub unless : Bool → List ℕ → List ℕ
+unless b xs = if b then [] else xs
+
 abbrev pub after_step : After-F (List ℕ) (List ℕ) (List ℕ) → List ℕ
 after_step (After-F.Converse at) = []
 after_step (After-F.Apply at xs) = xs
@@ -48,9 +57,9 @@ formula_step table ps (Formula-F.Row xs xss) = xs ++ joined xss
 formula_step table ps (Formula-F.Call at f xss) = joined xss
 formula_step table ps (Formula-F.Set at xss) = joined xss
 formula_step table ps (Formula-F.Sequence at xss) = joined xss
-formula_step table ps (Formula-F.Comprehension at ns xs) = xs
-formula_step table ps (Formula-F.Quantified at q ns xs) = xs
-formula_step table ps (Formula-F.Collected at c ns xs ys) = xs ++ ys
+formula_step table ps (Formula-F.Comprehension at ns xs) = unless (binds table ns) xs
+formula_step table ps (Formula-F.Quantified at q ns xs) = unless (binds table ns) xs
+formula_step table ps (Formula-F.Collected at c ns xs ys) = unless (binds table ns) (xs ++ ys)
 formula_step table ps (Formula-F.If at xs ys zs) = xs ++ (ys ++ zs)
 
 -- the places of the definitions whose names stand in a tree, in order
@@ -93,8 +102,8 @@ subst_step table ps (Subst-F.If at xss o) = joined xss ++ in_part o
 subst_step table ps (Subst-F.Select at xss o) = joined xss ++ in_part o
 subst_step table ps (Subst-F.Choice at xss) = joined xss
 subst_step table ps (Subst-F.Case at e xss o) = used_in table ps e ++ (joined xss ++ in_part o)
-subst_step table ps (Subst-F.Any at ns p xs) = used_in table ps p ++ xs
-subst_step table ps (Subst-F.Let at ns es xs) = used_in_all table ps es ++ xs
+subst_step table ps (Subst-F.Any at ns p xs) = unless (binds table ns) (used_in table ps p ++ xs)
+subst_step table ps (Subst-F.Let at ns es xs) = unless (binds table ns) (used_in_all table ps es ++ xs)
 subst_step table ps (Subst-F.Chain xs xss) = xs ++ joined xss
 subst_step table ps (Subst-F.Use at x es) = listed (meant table ps x) ++ used_in_all table ps es
 

@@ -1,5 +1,5 @@
 //! A table of definitions in the order of use.
-ghost use Rattle.std.specs.Prelude.{◌≡◌, length, IfOk, OnOk};
+ghost use Rattle.std.specs.Prelude.{◌≡◌, length, IfOk, OnOk, IsPermutation};
 ghost use Rattle.b_definitions.specs.Arranging.{Arranges, HasNoCircle, IsCircleIn, IsChecked};
 ghost use Rattle.b_definitions.specs.Meaning.{MeansInOrder, IsSettled};
 ghost use Rattle.b_definitions.specs.Tables.{IsIndexed, SameFirst};
@@ -71,7 +71,7 @@ fn checked(alloc: Global, table: DefTable) -> Result<DefTable, Disorder>
 }
 
 // The first definitions of names by rank, and the others behind them.
-#[tactic(auto, using(crate::proofs::Parts::firsts_stay, crate::proofs::Parts::all_stay))]
+#[tactic(auto, using(crate::proofs::Parts::firsts_stay, crate::proofs::Parts::all_stay, crate::proofs::Kept::none_lost))]
 fn sorted_firsts(
     alloc: Global,
     table: DefTable,
@@ -80,6 +80,7 @@ fn sorted_firsts(
 ) -> Result<DefTable, AllocError>
     requires { IsIndexed table.defs index.now }
     ensures first { IfOk result (λ t. SameFirst table.defs t.defs) }
+    ensures same { IfOk result (λ t. IsPermutation table.defs t.defs) }
     ensures many { IfOk result (λ t. length t.defs ≡ length table.defs) }
 {
     let parts = parts_of(alloc, table, index)?;

@@ -91,6 +91,7 @@ pub fn sorted_by_rank(
     ranks: &[u64],
 ) -> Result<DefTable, AllocError>
     ensures first { IfOk result (λ t. SameFirst table.defs t.defs) }
+    ensures same { IfOk result (λ t. IsPermutation table.defs t.defs) }
     ensures many { IfOk result (λ t. length t.defs ≡ length table.defs) }
 {
     let ranked = ranked_all(alloc, table.defs, index, ranks)?;

@@ -3,7 +3,7 @@ ghost use Rattle.std.specs.Prelude.{◌≡◌, ◌++◌, map, IfOk};
 ghost use Rattle.b_definitions.specs.Uses as spec;
 ghost use Rattle.b_definitions.specs.Tables.{IsIndexed};
 
-use crate::uses::{Body, collect, collect_all, meant, with_meant};
+use crate::uses::{Body, binds, collect, collect_all, meant, with_meant};
 use b_ast::machine::{Branch, CaseBranch, Step, Subst};
 use sqlite_items::Items;
 use std::alloc::AllocError;
@@ -56,13 +56,21 @@ pub fn collect_subst(
                 None => Ok(found),
             }
         }
-        Subst::Any(_, _, p, s) => {
-            let found = collect(p, found, body)?;
-            collect_subst(s.get(), found, body)
+        Subst::Any(_, ns, p, s) => {
+            if binds(ns.as_slice(), body) {
+                Ok(found)
+            } else {
+                let found = collect(p, found, body)?;
+                collect_subst(s.get(), found, body)
+            }
         }
-        Subst::Let(_, _, es, s) => {
-            let found = collect_all(es.as_slice(), found, body)?;
-            collect_subst(s.get(), found, body)
+        Subst::Let(_, ns, es, s) => {
+            if binds(ns.as_slice(), body) {
+                Ok(found)
+            } else {
+                let found = collect_all(es.as_slice(), found, body)?;
+                collect_subst(s.get(), found, body)
+            }
         }
         Subst::Chain(s, steps) => {
             let found = collect_subst(s.get(), found, body)?;

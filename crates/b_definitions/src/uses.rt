@@ -6,7 +6,7 @@ ghost use Rattle.b_definitions.specs.Tables.{IsIndexed};
 
 use crate::substitutions::collect_subst;
 use b_ast::machine::{Def, DefBody};
-use b_ast::{After, Formula, Link};
+use b_ast::{After, Bound, Formula, Link};
 use b_names::Index;
 use sqlite_items::Items;
 use std::alloc::{AllocError, Global};
@@ -49,6 +49,19 @@ pub fn meant(body: &Body<'_>, name: &[u8]) -> Option<usize>
     }
 }
 
+/// Whether one of some bound names is a definition's.
+pub fn binds(names: &[Bound], body: &Body<'_>) -> bool
+    requires { IsIndexed body.now.table.now body.now.index.now }
+    ensures { result ≡ spec.binds body.now.table.now names.now }
+{
+    for name in names {
+        if definition_of(body, name.name.as_slice()).is_some() {
+            return true;
+        }
+    }
+    false
+}
+
 /// Some places and one that may be there.
 pub fn with_meant(place: Option<usize>, found: Items<usize>) -> Result<Items<usize>, AllocError>
     ensures { IfOk result (λ xs. xs ≡ found ++ spec.listed place) }
@@ -89,11 +102,27 @@ pub fn collect(
         Formula::Call(_, _, es) => collect_all(es.as_slice(), found, body),
         Formula::Set(_, es) => collect_all(es.as_slice(), found, body),
         Formula::Sequence(_, es) => collect_all(es.as_slice(), found, body),
-        Formula::Comprehension(_, _, p) => collect(p.get(), found, body),
-        Formula::Quantified(_, _, _, p) => collect(p.get(), found, body),
-        Formula::Collected(_, _, _, p, e) => {
-            let found = collect(p.get(), found, body)?;
-            collect(e.get(), found, body)
+        Formula::Comprehension(_, ns, p) => {
+            if binds(ns.as_slice(), body) {
+                Ok(found)
+            } else {
+                collect(p.get(), found, body)
+            }
+        }
+        Formula::Quantified(_, _, ns, p) => {
+            if binds(ns.as_slice(), body) {
+                Ok(found)
+            } else {
+                collect(p.get(), found, body)
+            }
+        }
+        Formula::Collected(_, _, ns, p, e) => {
+            if binds(ns.as_slice(), body) {
+                Ok(found)
+            } else {
+                let found = collect(p.get(), found, body)?;
+                collect(e.get(), found, body)
+            }
         }
         Formula::If(_, p, e, f) => {
             let found = collect(p.get(), found, body)?;

@@ -1,5 +1,5 @@
 -- Where a formula expands, what it expands to is the formula with its definitions put in.
-use Rattle.std.proofs.Common.{◌≡◌, ℕ, Bool, true, false, cond, List, [], ◌∷◌, map, fold, Option, Some, None, Result, Ok, Err, refl, sym, ap, subst, ◌∙◌}
+use Rattle.std.proofs.Common.{◌≡◌, ℕ, Bool, true, false, cond, List, [], ◌∷◌, map, length, fold, Option, Some, None, Result, Ok, Err, refl, sym, ap, subst, ◌∙◌}
 use Rattle.std.specs.Prelude.{bytes_eq, IfOk, IfSome}
 use Rattle.b_ast.specs.declared.Place.{Place}
 use Rattle.b_ast.specs.declared.machine.Def.{Def}
@@ -16,7 +16,7 @@ use Rattle.b_expand.specs.Expansion as expansion
 use Rattle.b_expand.specs.Expansion.{Scope, Meaning, Meanings, Reading, reading, form_of, side_of, meaning_of, meanings, expanded_operator}
 use Rattle.b_expand.specs.Filling as filling
 use Rattle.b_expand.specs.Filling.{Insert, Inserts, Filling, insert_of, inserts, filled}
-use Rattle.b_expand.proofs.PuttingNames.{Gives, gives_map, Agree}
+use Rattle.b_expand.proofs.PuttingNames.{Gives, gives_map}
 use Rattle.b_expand.proofs.PuttingUses.{scope, Puts, Pairwise, Reads, SameMeaning, SameMeant, SameNames, name_puts, same_called}
 use Rattle.b_expand.proofs.PuttingLayers.{pairs_of, alone_reads, none_puts, one_puts, list_puts, bound_puts, bound_two_puts, three_puts, SidePuts, chain_reads, FormPuts, gives_row}
 use Rattle.b_expand.proofs.Layers.{Below, BelowAfter, BelowLink, by_layers}
@@ -66,16 +66,16 @@ module _ (table : List Def) (means : Meanings) (ins : Inserts) (same : SameNames
 
   -- forms, layer by layer
   on_after : (x : After-F After Formula Link) → BelowAfter PA PF PL x → PA (roll-After x)
-  on_after (After-F.Converse at) h = joint_after (After-F.Converse at) (record { arguments = tt; form = record { gives = λ n ps ts us a t e. cc } })
+  on_after (After-F.Converse at) h = joint_after (After-F.Converse at) (record { arguments = tt; form = record { gives = λ n ps ts w t e. cc } })
   on_after (After-F.Apply at x) h =
       joint_after (After-F.Apply at x) (record {
         arguments = h.arguments;
-        form = record { gives = λ n ps ts us a. gives_map (after.Apply (deeper_place n at)) ((reading table means x).tree (scope n ps ts)) ((filling.filling ins x).part.tree (scope n ps us)) (h.tree.gives n ps ts us a) };
+        form = record { gives = λ n ps ts w. gives_map (after.Apply (deeper_place n at)) ((reading table means x).tree (scope n ps ts)) ((filling.filling ins x).part.tree (scope n ps ts)) (h.tree.gives n ps ts w) };
       })
   on_after (After-F.Image at x) h =
       joint_after (After-F.Image at x) (record {
         arguments = tt;
-        form = record { gives = λ n ps ts us a. gives_map (after.Image (deeper_place n at)) ((reading table means x).tree (scope n ps ts)) ((filling.filling ins x).part.tree (scope n ps us)) (h.tree.gives n ps ts us a) };
+        form = record { gives = λ n ps ts w. gives_map (after.Image (deeper_place n at)) ((reading table means x).tree (scope n ps ts)) ((filling.filling ins x).part.tree (scope n ps ts)) (h.tree.gives n ps ts w) };
       })
 
   -- links, layer by layer
@@ -85,8 +85,8 @@ module _ (table : List Def) (means : Meanings) (ins : Inserts) (same : SameNames
         comma = refl;
         operand = h.tree;
         link = record {
-          gives = λ n ps ts us a. gives_map (λ e. roll-Link (record { operator = expanded_operator x.operator; at = deeper_place n x.at; operand = e }))
-              ((reading table means x.operand).tree (scope n ps ts)) ((filling.filling ins x.operand).part.tree (scope n ps us)) (h.tree.gives n ps ts us a);
+          gives = λ n ps ts w. gives_map (λ e. roll-Link (record { operator = expanded_operator x.operator; at = deeper_place n x.at; operand = e }))
+              ((reading table means x.operand).tree (scope n ps ts)) ((filling.filling ins x.operand).part.tree (scope n ps ts)) (h.tree.gives n ps ts w);
         };
       })
 
@@ -96,14 +96,14 @@ module _ (table : List Def) (means : Meanings) (ins : Inserts) (same : SameNames
 
   -- a row
   row_puts : (r : Reading) (f : Filling) (fs : List expansion.Form) (gs : List filling.Form) → Reads r f → Pairwise FormPuts fs gs
-      → Puts (λ s. expansion.row (expansion.called means s r.name) r fs s) (λ ps x. filling.row_needs (filling.called ins ps f.name) f gs ps x) (λ s. filling.row (filling.called ins s.params f.name) f gs s)
+      → Puts (λ s. expansion.row (expansion.called means s r.name) r fs s) (λ s. filling.row (filling.called ins s.params f.name) f gs s)
   row_puts r f fs gs h k = record { gives = go }
     where
-      go : (n : ℕ) (ps : List (List ℕ)) (ts us : List Formula) → Agree ps ts us (λ x. filling.row_needs (filling.called ins ps f.name) f gs ps x)
-          → Gives (expansion.row (expansion.called means (scope n ps ts) r.name) r fs (scope n ps ts)) (filling.row (filling.called ins ps f.name) f gs (scope n ps us))
-      go n ps ts us a =
-          subst (λ (name : Option (ℕ × List ℕ)). Gives (expansion.row (expansion.called means (scope n ps ts) name) r fs (scope n ps ts)) (filling.row (filling.called ins ps f.name) f gs (scope n ps us))) (sym h.name)
-          (gives_row r f fs gs h k n ps ts us (expansion.called means (scope n ps ts) f.name) (filling.called ins ps f.name) (same_called means ins same n ps ts a.many f.name) a)
+      go : (n : ℕ) (ps : List (List ℕ)) (ts : List Formula) → length ts ≡ length ps
+          → Gives (expansion.row (expansion.called means (scope n ps ts) r.name) r fs (scope n ps ts)) (filling.row (filling.called ins ps f.name) f gs (scope n ps ts))
+      go n ps ts w =
+          subst (λ (name : Option (ℕ × List ℕ)). Gives (expansion.row (expansion.called means (scope n ps ts) name) r fs (scope n ps ts)) (filling.row (filling.called ins ps f.name) f gs (scope n ps ts))) (sym h.name)
+          (gives_row r f fs gs h k n ps ts w (expansion.called means (scope n ps ts) f.name) (filling.called ins ps f.name) (same_called means ins same n ps ts w f.name))
 
   -- formulas, layer by layer
   on_formula : (x : Formula-F After Formula Link) → Below PA PF PL x → PF (roll-Formula x)
@@ -128,16 +128,16 @@ module _ (table : List Def) (means : Meanings) (ins : Inserts) (same : SameNames
   on_formula (Formula-F.If at x y z) h = joint (Formula-F.If at x y z) (alone_reads _ _ (three_puts (λ n. formula.If (deeper_place n at)) (reading table means x) (reading table means y) (reading table means z) (filling.filling ins x) (filling.filling ins y) (filling.filling ins z) h.0 h.1 h.2))
 
   -- a formula reads the same
-  reads : (t : Formula) → Reads (reading table means t) (filling.filling ins t)
+  pub reads : (t : Formula) → Reads (reading table means t) (filling.filling ins t)
   reads t = by_layers PA PF PL on_after on_formula on_link t
 
   -- ---- the table
 
   -- a definition's body means the same
   same_of : (ps : List (List ℕ)) (b : DefBody) → SameMeaning (meaning_of table means ps b) (insert_of ins ps b)
-  same_of ps (body.Expr e) = record { params = refl; body = λ n ts us a. (reads e.formula).tree.gives n ps ts us a }
-  same_of ps (body.Pred p) = record { params = refl; body = λ n ts us a. (reads p.formula).tree.gives n ps ts us a }
-  same_of ps (body.Subst u) = record { params = refl; body = λ n ts us a t e. absurd (cc) }
+  same_of ps (body.Expr e) = record { params = refl; body = λ n ts w. (reads e.formula).tree.gives n ps ts w }
+  same_of ps (body.Pred p) = record { params = refl; body = λ n ts w. (reads p.formula).tree.gives n ps ts w }
+  same_of ps (body.Subst u) = record { params = refl; body = λ n ts w t e. absurd (cc) }
 
   -- of two definitions the first counts
   same_first : (m : Option Meaning) (i : Option Insert) → SameMeant m i → (o : Option Meaning) (p : Option Insert) → SameMeant o p → SameMeant (expansion.first_of m o) (filling.first_of i p)
@@ -159,7 +159,7 @@ module _ (table : List Def) (means : Meanings) (ins : Inserts) (same : SameNames
   }
 
 -- the definitions one after the other
-same_all : (table : List Def) (means : Meanings) (ins : Inserts) → SameNames means ins → (ds : List Def) → SameNames (fold (expansion.with_definition table) means ds) (fold filling.with_definition ins ds)
+pub same_all : (table : List Def) (means : Meanings) (ins : Inserts) → SameNames means ins → (ds : List Def) → SameNames (fold (expansion.with_definition table) means ds) (fold filling.with_definition ins ds)
 same_all table means ins h [] = h
 same_all table means ins h (d ∷ ds) = same_all table (expansion.with_definition table means d) (filling.with_definition ins d) (same_with table means ins h d) ds
 
@@ -167,7 +167,7 @@ same_all table means ins h (d ∷ ds) = same_all table (expansion.with_definitio
 pub filled_is_expanded : (ds : List Def) (t e : Formula) → expansion.expansion ds t ≡ Some e → filled ds t ≡ e
 filled_is_expanded ds t e h =
     let means : SameNames (meanings ds ds) (inserts ds) = same_all ds (λ x. None) (λ x. None) (record { at = λ x. tt }) ds in
-    (reads ds (meanings ds ds) (inserts ds) means t).tree.gives 0 [] [] [] (record { many = refl; as_many = refl; same = λ x f. refl }) e h
+    (reads ds (meanings ds ds) (inserts ds) means t).tree.gives 0 [] [] refl e h
 
 -- the formula with its definitions put in is what it expands to, where it expands
 pub expands_to : (ds : List Def) (t e : Formula) → e ≡ filled ds t → IfSome (expansion.expansion ds t) (λ wanted. e ≡ wanted)

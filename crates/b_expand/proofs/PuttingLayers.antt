@@ -1,5 +1,5 @@
 -- Layers of trees, with and without looking whether all is in order.
-use Rattle.std.proofs.Common.{◌≡◌, ℕ, Bool, true, false, ◌&&◌, cond, List, [], ◌∷◌, map, Option, Some, None, refl, ap, ◌∙◌, subst}
+use Rattle.std.proofs.Common.{◌≡◌, ℕ, Bool, true, false, ◌&&◌, cond, List, [], ◌∷◌, map, length, Option, Some, None, refl, ap, ◌∙◌, subst}
 use Rattle.std.specs.Prelude.{option_map}
 use Rattle.std.specs.List.{AllByRecursion, list_all}
 use Rattle.b_ast.specs.declared.machine.Def.{Def}
@@ -10,8 +10,8 @@ use Rattle.b_expand.specs.Places.{deeper_bound}
 use Rattle.b_expand.specs.Expansion as expansion
 use Rattle.b_expand.specs.Expansion.{Scope, Meaning, Reading, Expands, both, all_three, may_bind, used, row_of}
 use Rattle.b_expand.specs.Filling as filling
-use Rattle.b_expand.specs.Filling.{Part, Insert, Filling, any_needs, any_form_needs, used_needs}
-use Rattle.b_expand.proofs.PuttingNames.{Gives, gives_some, gives_map, gives_both, gives_three, Agree, left_of, right_of}
+use Rattle.b_expand.specs.Filling.{Part, Insert, Filling}
+use Rattle.b_expand.proofs.PuttingNames.{Gives, gives_some, gives_map, gives_both, gives_three}
 use Rattle.b_expand.proofs.PuttingUses.{scope, Puts, PutsPart, Pairwise, Reads, gives_used, SameMeaning, SameCalled}
 
 -- ---- lists
@@ -26,19 +26,18 @@ pub alone_reads : (e : Expands Formula) (p : Part) → PutsPart e p → Reads (e
 alone_reads e p h = record { name = refl; tree = h; arguments = (h, tt) }
 
 -- trees one after the other
-gives_trees : (rs : List Reading) (fs : List Filling) → Pairwise Reads rs fs → (n : ℕ) (ps : List (List ℕ)) (ts us : List Formula) → Agree ps ts us (any_needs (filling.parts fs) ps)
-    → Gives (expansion.trees rs (scope n ps ts)) (filling.trees fs (scope n ps us))
-gives_trees [] [] h n ps ts us a = gives_some []
-gives_trees [] (f ∷ fs) h n ps ts us a = absurd h
-gives_trees (r ∷ rs) [] h n ps ts us a = absurd h
-gives_trees (r ∷ rs) (f ∷ fs) h n ps ts us a =
-    gives_both (λ x xs. x ∷ xs) (r.tree (scope n ps ts)) (expansion.trees rs (scope n ps ts)) (f.part.tree (scope n ps us)) (filling.trees fs (scope n ps us))
-    (h.0.tree.gives n ps ts us (left_of ps ts us (f.part.needs ps) (any_needs (filling.parts fs) ps) a))
-    (gives_trees rs fs h.1 n ps ts us (right_of ps ts us (f.part.needs ps) (any_needs (filling.parts fs) ps) a))
+gives_trees : (rs : List Reading) (fs : List Filling) → Pairwise Reads rs fs → (n : ℕ) (ps : List (List ℕ)) (ts : List Formula) → length ts ≡ length ps
+    → Gives (expansion.trees rs (scope n ps ts)) (filling.trees fs (scope n ps ts))
+gives_trees [] [] h n ps ts l = gives_some []
+gives_trees [] (f ∷ fs) h n ps ts l = absurd h
+gives_trees (r ∷ rs) [] h n ps ts l = absurd h
+gives_trees (r ∷ rs) (f ∷ fs) h n ps ts l =
+    gives_both (λ x xs. x ∷ xs) (r.tree (scope n ps ts)) (expansion.trees rs (scope n ps ts)) (f.part.tree (scope n ps ts)) (filling.trees fs (scope n ps ts))
+    (h.0.tree.gives n ps ts l) (gives_trees rs fs h.1 n ps ts l)
 
 -- bound names
-gives_bound : (table : List Def) (n : ℕ) (ps : List (List ℕ)) (ts us : List Formula) (xs : List Bound) → Gives (expansion.bound table (scope n ps ts) xs) (filling.bound (scope n ps us) xs)
-gives_bound table n ps ts us xs t e = go (list_all (may_bind table (scope n ps ts)) xs) e
+gives_bound : (table : List Def) (n : ℕ) (ps : List (List ℕ)) (ts : List Formula) (xs : List Bound) → Gives (expansion.bound table (scope n ps ts) xs) (filling.bound (scope n ps ts) xs)
+gives_bound table n ps ts xs t e = go (list_all (may_bind table (scope n ps ts)) xs) e
   where
     go : (b : Bool) → cond b (Some (map (deeper_bound n) xs)) None ≡ Some t → map (deeper_bound n) xs ≡ t
     go true e = gives_some (map (deeper_bound n) xs) t e
@@ -47,51 +46,43 @@ gives_bound table n ps ts us xs t e = go (list_all (may_bind table (scope n ps t
 -- ---- layers of trees
 
 -- a tree that is made of no other
-pub none_puts : (c : ℕ → Formula) → Puts (λ s. Some (c s.round)) (any_needs []) (λ s. c s.round)
-none_puts c = record { gives = λ n ps ts us a. gives_some (c n) }
+pub none_puts : (c : ℕ → Formula) → Puts (λ s. Some (c s.round)) (λ s. c s.round)
+none_puts c = record { gives = λ n ps ts l. gives_some (c n) }
 
 -- of one
-pub one_puts : (c : ℕ → Formula → Formula) (r : Reading) (f : Filling) → Reads r f → Puts (λ s. option_map (c s.round) (r.tree s)) (any_needs (f.part ∷ [])) (λ s. c s.round (f.part.tree s))
-one_puts c r f h = record { gives = λ n ps ts us a. gives_map (c n) (r.tree (scope n ps ts)) (f.part.tree (scope n ps us)) (h.tree.gives n ps ts us (left_of ps ts us (f.part.needs ps) (any_needs [] ps) a)) }
+pub one_puts : (c : ℕ → Formula → Formula) (r : Reading) (f : Filling) → Reads r f → Puts (λ s. option_map (c s.round) (r.tree s)) (λ s. c s.round (f.part.tree s))
+one_puts c r f h = record { gives = λ n ps ts l. gives_map (c n) (r.tree (scope n ps ts)) (f.part.tree (scope n ps ts)) (h.tree.gives n ps ts l) }
 
 -- of a list
 pub list_puts : (c : ℕ → List Formula → Formula) (rs : List Reading) (fs : List Filling) → Pairwise Reads rs fs
-    → Puts (λ s. option_map (c s.round) (expansion.trees rs s)) (any_needs (filling.parts fs)) (λ s. c s.round (filling.trees fs s))
+    → Puts (λ s. option_map (c s.round) (expansion.trees rs s)) (λ s. c s.round (filling.trees fs s))
 list_puts c rs fs h =
-    record { gives = λ n ps ts us a. gives_map (c n) (expansion.trees rs (scope n ps ts)) (filling.trees fs (scope n ps us)) (gives_trees rs fs h n ps ts us a) }
+    record { gives = λ n ps ts l. gives_map (c n) (expansion.trees rs (scope n ps ts)) (filling.trees fs (scope n ps ts)) (gives_trees rs fs h n ps ts l) }
 
 -- of bound names and one tree
 pub bound_puts : (table : List Def) (c : ℕ → List Bound → Formula → Formula) (xs : List Bound) (r : Reading) (f : Filling) → Reads r f
-    → Puts (λ s. both (c s.round) (expansion.bound table s xs) (r.tree s)) (any_needs (f.part ∷ [])) (λ s. c s.round (filling.bound s xs) (f.part.tree s))
+    → Puts (λ s. both (c s.round) (expansion.bound table s xs) (r.tree s)) (λ s. c s.round (filling.bound s xs) (f.part.tree s))
 bound_puts table c xs r f h = record {
-  gives = λ n ps ts us a. gives_both (c n) (expansion.bound table (scope n ps ts) xs) (r.tree (scope n ps ts)) (filling.bound (scope n ps us) xs) (f.part.tree (scope n ps us))
-      (gives_bound table n ps ts us xs) (h.tree.gives n ps ts us (left_of ps ts us (f.part.needs ps) (any_needs [] ps) a));
+  gives = λ n ps ts l. gives_both (c n) (expansion.bound table (scope n ps ts) xs) (r.tree (scope n ps ts)) (filling.bound (scope n ps ts) xs) (f.part.tree (scope n ps ts))
+      (gives_bound table n ps ts xs) (h.tree.gives n ps ts l);
 }
 
 -- of bound names and two trees
 pub bound_two_puts : (table : List Def) (c : ℕ → List Bound → Formula → Formula → Formula) (xs : List Bound) (q r : Reading) (f g : Filling) → Reads q f → Reads r g
-    → Puts (λ s. all_three (c s.round) (expansion.bound table s xs) (q.tree s) (r.tree s)) (any_needs (f.part ∷ g.part ∷ [])) (λ s. c s.round (filling.bound s xs) (f.part.tree s) (g.part.tree s))
+    → Puts (λ s. all_three (c s.round) (expansion.bound table s xs) (q.tree s) (r.tree s)) (λ s. c s.round (filling.bound s xs) (f.part.tree s) (g.part.tree s))
 bound_two_puts table c xs q r f g h k = record {
-  gives = λ n ps ts us a. gives_three (c n) (expansion.bound table (scope n ps ts) xs) (q.tree (scope n ps ts)) (r.tree (scope n ps ts))
-      (filling.bound (scope n ps us) xs) (f.part.tree (scope n ps us)) (g.part.tree (scope n ps us))
-      (gives_bound table n ps ts us xs)
-      (h.tree.gives n ps ts us (left_of ps ts us (f.part.needs ps) (any_needs (g.part ∷ []) ps) a))
-      (k.tree.gives n ps ts us (left_of ps ts us (g.part.needs ps) (any_needs [] ps) (right_of ps ts us (f.part.needs ps) (any_needs (g.part ∷ []) ps) a)));
+  gives = λ n ps ts l. gives_three (c n) (expansion.bound table (scope n ps ts) xs) (q.tree (scope n ps ts)) (r.tree (scope n ps ts))
+      (filling.bound (scope n ps ts) xs) (f.part.tree (scope n ps ts)) (g.part.tree (scope n ps ts))
+      (gives_bound table n ps ts xs) (h.tree.gives n ps ts l) (k.tree.gives n ps ts l);
 }
 
 -- of three trees
 pub three_puts : (c : ℕ → Formula → Formula → Formula → Formula) (p q r : Reading) (e f g : Filling) → Reads p e → Reads q f → Reads r g
-    → Puts (λ s. all_three (c s.round) (p.tree s) (q.tree s) (r.tree s)) (any_needs (e.part ∷ f.part ∷ g.part ∷ [])) (λ s. c s.round (e.part.tree s) (f.part.tree s) (g.part.tree s))
-three_puts c p q r e f g h k l = record { gives = go }
-  where
-    go : (n : ℕ) (ps : List (List ℕ)) (ts us : List Formula) → Agree ps ts us (any_needs (e.part ∷ f.part ∷ g.part ∷ []) ps)
-        → Gives (all_three (c n) (p.tree (scope n ps ts)) (q.tree (scope n ps ts)) (r.tree (scope n ps ts))) (c n (e.part.tree (scope n ps us)) (f.part.tree (scope n ps us)) (g.part.tree (scope n ps us)))
-    go n ps ts us a =
-        let later = right_of ps ts us (e.part.needs ps) (any_needs (f.part ∷ g.part ∷ []) ps) a in
-        gives_three (c n) (p.tree (scope n ps ts)) (q.tree (scope n ps ts)) (r.tree (scope n ps ts)) (e.part.tree (scope n ps us)) (f.part.tree (scope n ps us)) (g.part.tree (scope n ps us))
-        (h.tree.gives n ps ts us (left_of ps ts us (e.part.needs ps) (any_needs (f.part ∷ g.part ∷ []) ps) a))
-        (k.tree.gives n ps ts us (left_of ps ts us (f.part.needs ps) (any_needs (g.part ∷ []) ps) later))
-        (l.tree.gives n ps ts us (left_of ps ts us (g.part.needs ps) (any_needs [] ps) (right_of ps ts us (f.part.needs ps) (any_needs (g.part ∷ []) ps) later)))
+    → Puts (λ s. all_three (c s.round) (p.tree s) (q.tree s) (r.tree s)) (λ s. c s.round (e.part.tree s) (f.part.tree s) (g.part.tree s))
+three_puts c p q r e f g h k m = record {
+  gives = λ n ps ts l. gives_three (c n) (p.tree (scope n ps ts)) (q.tree (scope n ps ts)) (r.tree (scope n ps ts)) (e.part.tree (scope n ps ts)) (f.part.tree (scope n ps ts)) (g.part.tree (scope n ps ts))
+      (h.tree.gives n ps ts l) (k.tree.gives n ps ts l) (m.tree.gives n ps ts l);
+}
 
 -- ---- chains
 
@@ -99,25 +90,23 @@ three_puts c p q r e f g h k l = record { gives = go }
 pub record SidePuts (l : expansion.Side) (g : filling.Side) : Type 0 where
   pub comma : l.comma ≡ g.comma
   pub operand : PutsPart l.operand g.operand
-  pub link : Puts l.link g.operand.needs g.link
+  pub link : Puts l.link g.link
 
 -- links one after the other
-gives_links : (ls : List expansion.Side) (gs : List filling.Side) → Pairwise SidePuts ls gs → (n : ℕ) (ps : List (List ℕ)) (ts us : List Formula) → Agree ps ts us (any_needs (filling.sides gs) ps)
-    → Gives (expansion.links ls (scope n ps ts)) (filling.links gs (scope n ps us))
-gives_links [] [] h n ps ts us a = gives_some []
-gives_links [] (g ∷ gs) h n ps ts us a = absurd h
-gives_links (l ∷ ls) [] h n ps ts us a = absurd h
-gives_links (l ∷ ls) (g ∷ gs) h n ps ts us a =
-    gives_both (λ x xs. x ∷ xs) (l.link (scope n ps ts)) (expansion.links ls (scope n ps ts)) (g.link (scope n ps us)) (filling.links gs (scope n ps us))
-    (h.0.link.gives n ps ts us (left_of ps ts us (g.operand.needs ps) (any_needs (filling.sides gs) ps) a))
-    (gives_links ls gs h.1 n ps ts us (right_of ps ts us (g.operand.needs ps) (any_needs (filling.sides gs) ps) a))
+gives_links : (ls : List expansion.Side) (gs : List filling.Side) → Pairwise SidePuts ls gs → (n : ℕ) (ps : List (List ℕ)) (ts : List Formula) → length ts ≡ length ps
+    → Gives (expansion.links ls (scope n ps ts)) (filling.links gs (scope n ps ts))
+gives_links [] [] h n ps ts w = gives_some []
+gives_links [] (g ∷ gs) h n ps ts w = absurd h
+gives_links (l ∷ ls) [] h n ps ts w = absurd h
+gives_links (l ∷ ls) (g ∷ gs) h n ps ts w =
+    gives_both (λ x xs. x ∷ xs) (l.link (scope n ps ts)) (expansion.links ls (scope n ps ts)) (g.link (scope n ps ts)) (filling.links gs (scope n ps ts))
+    (h.0.link.gives n ps ts w) (gives_links ls gs h.1 n ps ts w)
 
 -- a chain's tree
 chain_puts : (r : Reading) (f : Filling) (ls : List expansion.Side) (gs : List filling.Side) → Reads r f → Pairwise SidePuts ls gs → PutsPart (expansion.chain r ls) (filling.chain f gs)
 chain_puts r f ls gs h k = record {
-  gives = λ n ps ts us a. gives_both formula.Chain (r.tree (scope n ps ts)) (expansion.links ls (scope n ps ts)) (f.part.tree (scope n ps us)) (filling.links gs (scope n ps us))
-      (h.tree.gives n ps ts us (left_of ps ts us (f.part.needs ps) (any_needs (filling.sides gs) ps) a))
-      (gives_links ls gs k n ps ts us (right_of ps ts us (f.part.needs ps) (any_needs (filling.sides gs) ps) a));
+  gives = λ n ps ts w. gives_both formula.Chain (r.tree (scope n ps ts)) (expansion.links ls (scope n ps ts)) (f.part.tree (scope n ps ts)) (filling.links gs (scope n ps ts))
+      (h.tree.gives n ps ts w) (gives_links ls gs k n ps ts w);
 }
 
 -- the same links are commas
@@ -161,18 +150,17 @@ SameArguments (Some args) (Some parts) = Pairwise PutsPart args parts
 -- a form reads the same
 pub record FormPuts (f : expansion.Form) (g : filling.Form) : Type 0 where
   pub arguments : SameArguments f.arguments g.arguments
-  pub form : Puts f.form g.needs g.form
+  pub form : Puts f.form g.form
 
 -- forms one after the other
-gives_forms : (fs : List expansion.Form) (gs : List filling.Form) → Pairwise FormPuts fs gs → (n : ℕ) (ps : List (List ℕ)) (ts us : List Formula) → Agree ps ts us (any_form_needs gs ps)
-    → Gives (expansion.forms fs (scope n ps ts)) (filling.forms gs (scope n ps us))
-gives_forms [] [] h n ps ts us a = gives_some []
-gives_forms [] (g ∷ gs) h n ps ts us a = absurd h
-gives_forms (f ∷ fs) [] h n ps ts us a = absurd h
-gives_forms (f ∷ fs) (g ∷ gs) h n ps ts us a =
-    gives_both (λ x xs. x ∷ xs) (f.form (scope n ps ts)) (expansion.forms fs (scope n ps ts)) (g.form (scope n ps us)) (filling.forms gs (scope n ps us))
-    (h.0.form.gives n ps ts us (left_of ps ts us (g.needs ps) (any_form_needs gs ps) a))
-    (gives_forms fs gs h.1 n ps ts us (right_of ps ts us (g.needs ps) (any_form_needs gs ps) a))
+gives_forms : (fs : List expansion.Form) (gs : List filling.Form) → Pairwise FormPuts fs gs → (n : ℕ) (ps : List (List ℕ)) (ts : List Formula) → length ts ≡ length ps
+    → Gives (expansion.forms fs (scope n ps ts)) (filling.forms gs (scope n ps ts))
+gives_forms [] [] h n ps ts w = gives_some []
+gives_forms [] (g ∷ gs) h n ps ts w = absurd h
+gives_forms (f ∷ fs) [] h n ps ts w = absurd h
+gives_forms (f ∷ fs) (g ∷ gs) h n ps ts w =
+    gives_both (λ x xs. x ∷ xs) (f.form (scope n ps ts)) (expansion.forms fs (scope n ps ts)) (g.form (scope n ps ts)) (filling.forms gs (scope n ps ts))
+    (h.0.form.gives n ps ts w) (gives_forms fs gs h.1 n ps ts w)
 
 -- the arguments in the first form
 first_same : (fs : List expansion.Form) (gs : List filling.Form) → Pairwise FormPuts fs gs → SameArguments (expansion.first_arguments fs) (filling.first_arguments gs)
@@ -188,32 +176,30 @@ later_same [] (g ∷ gs) h = absurd h
 later_same (f ∷ fs) [] h = absurd h
 later_same (f ∷ fs) (g ∷ gs) h = h.1
 
-module _ (r : Reading) (f : Filling) (fs : List expansion.Form) (gs : List filling.Form) (h : Reads r f) (k : Pairwise FormPuts fs gs) (n : ℕ) (ps : List (List ℕ)) (ts us : List Formula) where
+module _ (r : Reading) (f : Filling) (fs : List expansion.Form) (gs : List filling.Form) (h : Reads r f) (k : Pairwise FormPuts fs gs) (n : ℕ) (ps : List (List ℕ)) (ts : List Formula) (w : length ts ≡ length ps) where
   -- a row that is no use
-  gives_plain_row : Agree ps ts us (filling.plain_row_needs f gs ps) → Gives (expansion.plain_row r fs (scope n ps ts)) (filling.plain_row f gs (scope n ps us))
-  gives_plain_row a =
-      gives_both formula.Row (r.tree (scope n ps ts)) (expansion.forms fs (scope n ps ts)) (f.part.tree (scope n ps us)) (filling.forms gs (scope n ps us))
-      (h.tree.gives n ps ts us (left_of ps ts us (f.part.needs ps) (any_form_needs gs ps) a))
-      (gives_forms fs gs k n ps ts us (right_of ps ts us (f.part.needs ps) (any_form_needs gs ps) a))
+  gives_plain_row : Gives (expansion.plain_row r fs (scope n ps ts)) (filling.plain_row f gs (scope n ps ts))
+  gives_plain_row =
+      gives_both formula.Row (r.tree (scope n ps ts)) (expansion.forms fs (scope n ps ts)) (f.part.tree (scope n ps ts)) (filling.forms gs (scope n ps ts))
+      (h.tree.gives n ps ts w) (gives_forms fs gs k n ps ts w)
 
   -- a row whose head is called
   gives_applied : (m : ℕ × Meaning) (i : ℕ × Insert) → m.0 ≡ i.0 → SameMeaning m.1 i.1 → (args : Option (List (Expands Formula))) (parts : Option (List Part)) → SameArguments args parts
-      → Agree ps ts us (filling.applied_needs i parts f gs ps) → Gives (expansion.applied m args r fs (scope n ps ts)) (filling.applied i parts f gs (scope n ps us))
-  gives_applied m i d s None None c a = gives_plain_row a
-  gives_applied m i d s None (Some parts) c a = absurd c
-  gives_applied m i d s (Some args) None c a = absurd c
-  gives_applied m i d s (Some args) (Some parts) c a =
+      → Gives (expansion.applied m args r fs (scope n ps ts)) (filling.applied i parts f gs (scope n ps ts))
+  gives_applied m i d s None None c = gives_plain_row
+  gives_applied m i d s None (Some parts) c = absurd c
+  gives_applied m i d s (Some args) None c = absurd c
+  gives_applied m i d s (Some args) (Some parts) c =
       subst (λ (depth : ℕ). Gives (both row_of (used m.0 m.1 (scope n ps ts) (map (λ a. a (scope n ps ts)) args)) (expansion.forms (expansion.later_forms fs) (scope n ps ts)))
-      (row_of (filling.used depth i.1 (scope n ps us) parts) (filling.forms (filling.later_forms gs) (scope n ps us)))) d
+      (row_of (filling.used depth i.1 (scope n ps ts) parts) (filling.forms (filling.later_forms gs) (scope n ps ts)))) d
       (gives_both row_of (used m.0 m.1 (scope n ps ts) (map (λ a. a (scope n ps ts)) args)) (expansion.forms (expansion.later_forms fs) (scope n ps ts))
-      (filling.used m.0 i.1 (scope n ps us) parts) (filling.forms (filling.later_forms gs) (scope n ps us))
-      (gives_used m.1 i.1 s m.0 n ps ts us args parts c (left_of ps ts us (used_needs i.1.needs i.1.params parts ps) (any_form_needs (filling.later_forms gs) ps) a))
-      (gives_forms (expansion.later_forms fs) (filling.later_forms gs) (later_same fs gs k) n ps ts us
-      (right_of ps ts us (used_needs i.1.needs i.1.params parts ps) (any_form_needs (filling.later_forms gs) ps) a)))
+      (filling.used m.0 i.1 (scope n ps ts) parts) (filling.forms (filling.later_forms gs) (scope n ps ts))
+      (gives_used m.1 i.1 s m.0 n ps ts w args parts c)
+      (gives_forms (expansion.later_forms fs) (filling.later_forms gs) (later_same fs gs k) n ps ts w))
 
   -- a row
-  pub gives_row : (m : Option (ℕ × Meaning)) (i : Option (ℕ × Insert)) → SameCalled m i → Agree ps ts us (filling.row_needs i f gs ps) → Gives (expansion.row m r fs (scope n ps ts)) (filling.row i f gs (scope n ps us))
-  gives_row None None c a = gives_plain_row a
-  gives_row None (Some i) c a = absurd c
-  gives_row (Some m) None c a = absurd c
-  gives_row (Some m) (Some i) c a = gives_applied m i c.0 c.1 (expansion.first_arguments fs) (filling.first_arguments gs) (first_same fs gs k) a
+  pub gives_row : (m : Option (ℕ × Meaning)) (i : Option (ℕ × Insert)) → SameCalled m i → Gives (expansion.row m r fs (scope n ps ts)) (filling.row i f gs (scope n ps ts))
+  gives_row None None c = gives_plain_row
+  gives_row None (Some i) c = absurd c
+  gives_row (Some m) None c = absurd c
+  gives_row (Some m) (Some i) c = gives_applied m i c.0 c.1 (expansion.first_arguments fs) (filling.first_arguments gs) (first_same fs gs k)

@@ -1,9 +1,8 @@
 -- Parameters and the trees that stand for them, and trees that are there only if their parts are.
-use Rattle.std.proofs.Common.{◌≡◌, ℕ, suc, ◌+◌, Bool, true, false, ◌||◌, not, cond, List, [], ◌∷◌, length, Option, Some, None, refl, sym, ap, ◌∙◌, arith}
+use Rattle.std.proofs.Common.{◌≡◌, ℕ, suc, ◌+◌, Bool, true, false, not, cond, List, [], ◌∷◌, length, Option, Some, None, refl, sym, ap, ◌∙◌, arith}
 use Rattle.std.specs.Prelude.{slice_get, option_map, option_and_then, is_some, bytes_eq, position, nat_lt}
 use Rattle.std.specs.List.{position_or_len}
 use Rattle.std.proofs.lemmas.Bool.Decides.{nat_tests}
-use Rattle.std.proofs.lemmas.Slice.Eq.{bytes_eq-Decides}
 use Rattle.b_ast.specs.declared.Formula.{Formula}
 use Rattle.b_expand.specs.Expansion.{both, all_three}
 
@@ -112,45 +111,3 @@ stands_for (p ∷ ps) (t ∷ ts) x h = go (bytes_eq x p) refl (stands_for ps ts 
     go false e k =
         ap (λ (b : Bool). is_some (cond b (Some t) (looked ps ts x))) e ∙ k
         ∙ sym (is_there (position (bytes_eq x) ps)) ∙ sym (ap is_some (position_next x p ps false e))
-
--- ---- trees that agree where names are needed
-
--- each parameter has a tree on both sides, the same where it is needed
-pub record Agree (ps : List (List ℕ)) (ts us : List Formula) (needed : List ℕ → Bool) : Type 0 where
-  pub many : length ts ≡ length ps
-  pub as_many : length us ≡ length ps
-  pub same : (x : List ℕ) → needed x ≡ true → looked ps us x ≡ looked ps ts x
-
--- with fewer names needed
-pub weaker : (ps : List (List ℕ)) (ts us : List Formula) (needed fewer : List ℕ → Bool) → ((x : List ℕ) → fewer x ≡ true → needed x ≡ true) → Agree ps ts us needed → Agree ps ts us fewer
-weaker ps ts us needed fewer h a = record { many = a.many; as_many = a.as_many; same = λ x e. a.same x (h x e) }
-
--- either by its left side
-or_left : (b c : Bool) → b ≡ true → (b || c) ≡ true
-or_left true c e = refl
-or_left false c e = absurd (cc)
-
--- either by its right side
-or_right : (b c : Bool) → c ≡ true → (b || c) ≡ true
-or_right true c e = refl
-or_right false c e = e
-
--- where the left side's names are needed
-pub left_of : (ps : List (List ℕ)) (ts us : List Formula) (f g : List ℕ → Bool) → Agree ps ts us (λ x. f x || g x) → Agree ps ts us f
-left_of ps ts us f g a = weaker ps ts us (λ x. f x || g x) f (λ x e. or_left (f x) (g x) e) a
-
--- where the right side's names are needed
-pub right_of : (ps : List (List ℕ)) (ts us : List Formula) (f g : List ℕ → Bool) → Agree ps ts us (λ x. f x || g x) → Agree ps ts us g
-right_of ps ts us f g a = weaker ps ts us (λ x. f x || g x) g (λ x e. or_right (f x) (g x) e) a
-
--- with one more parameter, whose trees are the same where it is needed
-pub one_more : (q : List ℕ) (qs : List (List ℕ)) (t u : Formula) (ts us : List Formula) (needed : List ℕ → Bool) → Agree qs ts us needed → (needed q ≡ true → u ≡ t) → Agree (q ∷ qs) (t ∷ ts) (u ∷ us) needed
-one_more q qs t u ts us needed a h = record { many = ap suc a.many; as_many = ap suc a.as_many; same = λ x e. go x e (bytes_eq x q) refl }
-  where
-    go : (x : List ℕ) → needed x ≡ true → (b : Bool) → bytes_eq x q ≡ b → cond (bytes_eq x q) (Some u) (looked qs us x) ≡ cond (bytes_eq x q) (Some t) (looked qs ts x)
-    go x e true f =
-        let is : x ≡ q = (bytes_eq-Decides x q).0 f in
-        ap (λ (b : Bool). cond b (Some u) (looked qs us x)) f
-        ∙ ap Some (h (sym (ap needed is) ∙ e))
-        ∙ sym (ap (λ (b : Bool). cond b (Some t) (looked qs ts x)) f)
-    go x e false f = ap (λ (b : Bool). cond b (Some u) (looked qs us x)) f ∙ a.same x e ∙ sym (ap (λ (b : Bool). cond b (Some t) (looked qs ts x)) f)

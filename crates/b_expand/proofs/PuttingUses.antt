@@ -1,7 +1,6 @@
 -- What a tree stands for, with and without looking whether all is in order, and the uses of definitions.
-use Rattle.std.proofs.Common.{◌≡◌, ℕ, suc, Bool, true, false, ◌&&◌, ◌||◌, ◌==◌, cond, List, [], ◌∷◌, map, length, Option, Some, None, refl, sym, ap, ◌∙◌, subst, arith}
+use Rattle.std.proofs.Common.{◌≡◌, ℕ, Bool, true, false, ◌==◌, cond, List, [], ◌∷◌, map, length, Option, Some, None, refl, sym, ap, ◌∙◌, subst}
 use Rattle.std.specs.Prelude.{option_and_then, is_some, bytes_eq, position, slice_get}
-use Rattle.std.proofs.lemmas.Slice.Eq.{bytes_eq-Decides}
 use Rattle.std.proofs.lemmas.Bool.Decides.{Decides-eqb}
 use Rattle.b_ast.specs.declared.Place.{Place}
 use Rattle.b_ast.specs.declared.Sort.{Sort}
@@ -9,10 +8,10 @@ use Rattle.b_ast.specs.declared.Formula.{Formula}
 use Rattle.b_ast.specs.declared.Formula.TheVariants as formula
 use Rattle.b_ast.specs.Sorts.{sort_of, fits}
 use Rattle.b_expand.specs.Places.{brackets, deeper_place, deeper}
-use Rattle.b_expand.specs.Expansion.{Scope, Meaning, Meanings, Reading, Expands, both, all_of, sorted, of_sort, used_with, used, named, called}
+use Rattle.b_expand.specs.Expansion.{Scope, tree_of, Meaning, Meanings, Reading, Expands, both, all_of, sorted, of_sort, used_with, used, named, called}
 use Rattle.b_expand.specs.Filling as filling
-use Rattle.b_expand.specs.Filling.{Needs, Part, Insert, Inserts, Filling, used_needs, arguments_for, nothing}
-use Rattle.b_expand.proofs.PuttingNames.{Gives, gives_some, looks, stands_for, Agree, weaker, right_of, one_more}
+use Rattle.b_expand.specs.Filling.{Part, Insert, Inserts, Filling, trees_of}
+use Rattle.b_expand.proofs.PuttingNames.{Gives, gives_some, looks, stands_for}
 
 -- a scope by its parts
 abbrev pub scope : ℕ → List (List ℕ) → List Formula → Scope
@@ -20,13 +19,13 @@ scope n ps ts = record { round = n; params = ps; trees = ts }
 
 -- ---- the same parts
 
--- where the one gives something, the other gives it too, if the needed names stand for the same trees
-pub record Puts {X : Type 0} (e : Expands X) (needs : Needs) (f : Scope → X) : Type 0 where
-  pub gives : (n : ℕ) (ps : List (List ℕ)) (ts us : List Formula) → Agree ps ts us (needs ps) → Gives (e (scope n ps ts)) (f (scope n ps us))
+-- where the one gives something, the other is that, in scopes with a tree for each parameter
+pub record Puts {X : Type 0} (e : Expands X) (f : Scope → X) : Type 0 where
+  pub gives : (n : ℕ) (ps : List (List ℕ)) (ts : List Formula) → length ts ≡ length ps → Gives (e (scope n ps ts)) (f (scope n ps ts))
 
 -- a part that is a tree
 abbrev pub PutsPart : Expands Formula → Part → Type 0
-PutsPart e p = Puts e p.needs p.tree
+PutsPart e p = Puts e p.tree
 
 -- lists of which each holds with its partner
 abbrev pub Pairwise : {X Y : Type 0} → (X → Y → Type 0) → List X → List Y → Type 0
@@ -44,7 +43,7 @@ pub record Reads (r : Reading) (f : Filling) : Type 0 where
 -- what a definition means is the same
 pub record SameMeaning (m : Meaning) (i : Insert) : Type 0 where
   pub params : m.params ≡ i.params
-  pub body : (n : ℕ) (ts us : List Formula) → Agree m.params ts us i.needs → Gives (m.body (scope n m.params ts)) (i.body (scope n m.params us))
+  pub body : (n : ℕ) (ts : List Formula) → length ts ≡ length m.params → Gives (m.body (scope n m.params ts)) (i.body (scope n m.params ts))
 
 -- what a name means is the same
 abbrev pub SameMeant : Option Meaning → Option Insert → Type 0
@@ -66,7 +65,7 @@ pub record Fed {X Y : Type 0} (f : X → Option Y) (o : Option X) (t : Y) : Type
   pub gave : f from ≡ Some t
 
 -- what was made was made from something
-fed : {X Y : Type 0} (f : X → Option Y) (o : Option X) (t : Y) → option_and_then f o ≡ Some t → Fed f o t
+pub fed : {X Y : Type 0} (f : X → Option Y) (o : Option X) (t : Y) → option_and_then f o ≡ Some t → Fed f o t
 fed f None t e = absurd (cc)
 fed f (Some x) t e = record { from = x; is = refl; gave = e }
 
@@ -79,13 +78,13 @@ pub record Split {X : Type 0} (o : Option X) (p : Option (List X)) (es : List X)
   pub whole : first ∷ rest ≡ es
 
 -- a list that was made from parts
-split : {X : Type 0} (o : Option X) (p : Option (List X)) (es : List X) → both (λ x xs. x ∷ xs) o p ≡ Some es → Split o p es
+pub split : {X : Type 0} (o : Option X) (p : Option (List X)) (es : List X) → both (λ x xs. x ∷ xs) o p ≡ Some es → Split o p es
 split None p es e = absurd (cc)
 split (Some x) None es e = absurd (cc)
 split (Some x) (Some xs) es e = record { first = x; rest = xs; first_is = refl; rest_is = refl; whole = cc }
 
 -- what is there after a test passed it
-tested : {X : Type 0} (b : Bool) (o : Option X) (t : X) → cond b o None ≡ Some t → (b ≡ true) × (o ≡ Some t)
+pub tested : {X : Type 0} (b : Bool) (o : Option X) (t : X) → cond b o None ≡ Some t → (b ≡ true) × (o ≡ Some t)
 tested true o t e = (refl, e)
 tested false o t e = absurd (cc)
 
@@ -95,97 +94,62 @@ kept true x t e = e
 kept false x t e = absurd (cc)
 
 -- a tree with a sort is the tree
-sorted_is : (o : Option Formula) (t : Formula) → sorted o ≡ Some t → o ≡ Some t
+pub sorted_is : (o : Option Formula) (t : Formula) → sorted o ≡ Some t → o ≡ Some t
 sorted_is None t e = absurd (cc)
 sorted_is (Some x) t e = kept (is_some (sort_of x)) x t e
 
 -- a tree of the wanted sort is the tree
-of_sort_is : (wanted : Sort) (o : Option Formula) (t : Formula) → of_sort wanted o ≡ Some t → o ≡ Some t
+pub of_sort_is : (wanted : Sort) (o : Option Formula) (t : Formula) → of_sort wanted o ≡ Some t → o ≡ Some t
 of_sort_is wanted None t e = absurd (cc)
 of_sort_is wanted (Some x) t e = kept (fits wanted (sort_of x)) x t e
 
 -- ---- the arguments of a use
 
--- the first argument's names are needed, if its parameter has a place
-needed_first : (b c d : Bool) → b ≡ true → c ≡ true → ((b && c) || d) ≡ true
-needed_first true true d e f = refl
-needed_first true false d e f = absurd (cc)
-needed_first false c d e f = absurd (cc)
-
--- the arguments of a use stand for its parameters, where those have a place
-arguments_agree : (n : ℕ) (ps : List (List ℕ)) (ts us : List Formula) (needed : List ℕ → Bool) (qs : List (List ℕ)) (args : List (Expands Formula)) (parts : List Part) → Pairwise PutsPart args parts
-    → Agree ps ts us (used_needs needed qs parts ps) → (es : List Formula) → all_of (map sorted (map (λ a. a (scope n ps ts)) args)) ≡ Some es → length es ≡ length qs
-    → Agree qs es (arguments_for needed (scope n ps us) qs parts) needed
-arguments_agree n ps ts us needed [] args parts h a es e l = record { many = l; as_many = refl; same = λ x f. refl }
-arguments_agree n ps ts us needed (q ∷ qs) [] [] h a es e l = let none : [] ≡ es = cc in absurd (omega (arith, ap length none))
-arguments_agree n ps ts us needed (q ∷ qs) [] (p ∷ parts) h a es e l = absurd h
-arguments_agree n ps ts us needed (q ∷ qs) (g ∷ args) [] h a es e l = absurd h
-arguments_agree n ps ts us needed (q ∷ qs) (g ∷ args) (p ∷ parts) h a es e l =
-    go (split (sorted (g (scope n ps ts))) (all_of (map sorted (map (λ a. a (scope n ps ts)) args))) es e)
-    (arguments_agree n ps ts us needed qs args parts h.1 (right_of ps ts us (λ x. needed q && p.needs ps x) (used_needs needed qs parts ps) a))
+-- the arguments of a use are those that expand
+pub arguments_same : (n : ℕ) (ps : List (List ℕ)) (ts : List Formula) → length ts ≡ length ps → (args : List (Expands Formula)) (parts : List Part) → Pairwise PutsPart args parts
+    → (es : List Formula) → all_of (map sorted (map (λ a. a (scope n ps ts)) args)) ≡ Some es → trees_of parts (scope n ps ts) ≡ es
+arguments_same n ps ts l [] [] h es e = cc
+arguments_same n ps ts l [] (p ∷ parts) h es e = absurd h
+arguments_same n ps ts l (g ∷ args) [] h es e = absurd h
+arguments_same n ps ts l (g ∷ args) (p ∷ parts) h es e = go (split (sorted (g (scope n ps ts))) (all_of (map sorted (map (λ a. a (scope n ps ts)) args))) es e) (arguments_same n ps ts l args parts h.1)
   where
-    first : needed q ≡ true → Agree ps ts us (p.needs ps)
-    first f = weaker ps ts us (used_needs needed (q ∷ qs) (p ∷ parts) ps) (p.needs ps) (λ x k. needed_first (needed q) (p.needs ps x) (used_needs needed qs parts ps x) f k) a
-
-    put : (x : Formula) → sorted (g (scope n ps ts)) ≡ Some x → needed q ≡ true → cond (needed q) (p.tree (scope n ps us)) nothing ≡ x
-    put x k f = ap (λ (b : Bool). cond b (p.tree (scope n ps us)) nothing) f ∙ h.0.gives n ps ts us (first f) x (sorted_is (g (scope n ps ts)) x k)
-
     go : Split (sorted (g (scope n ps ts))) (all_of (map sorted (map (λ a. a (scope n ps ts)) args))) es
-        → ((es : List Formula) → all_of (map sorted (map (λ a. a (scope n ps ts)) args)) ≡ Some es → length es ≡ length qs → Agree qs es (arguments_for needed (scope n ps us) qs parts) needed)
-        → Agree (q ∷ qs) es (arguments_for needed (scope n ps us) (q ∷ qs) (p ∷ parts)) needed
+        → ((es : List Formula) → all_of (map sorted (map (λ a. a (scope n ps ts)) args)) ≡ Some es → trees_of parts (scope n ps ts) ≡ es)
+        → trees_of (p ∷ parts) (scope n ps ts) ≡ es
     go k more =
-        let long : suc (length k.rest) ≡ suc (length qs) = ap length k.whole ∙ l in
-        subst (λ (es : List Formula). Agree (q ∷ qs) es (arguments_for needed (scope n ps us) (q ∷ qs) (p ∷ parts)) needed) k.whole
-        (one_more q qs k.first (cond (needed q) (p.tree (scope n ps us)) nothing) k.rest (arguments_for needed (scope n ps us) qs parts) needed (more k.rest k.rest_is (omega arith)) (put k.first k.first_is))
+        ap (λ (t : Formula). t ∷ trees_of parts (scope n ps ts)) (h.0.gives n ps ts l k.first (sorted_is (g (scope n ps ts)) k.first k.first_is))
+        ∙ (ap (λ (us : List Formula). k.first ∷ us) (more k.rest k.rest_is) ∙ k.whole)
 
 -- ---- uses
 
 -- a use gives what its definition's body becomes
-pub gives_used : (m : Meaning) (i : Insert) → SameMeaning m i → (depth n : ℕ) (ps : List (List ℕ)) (ts us : List Formula) (args : List (Expands Formula)) (parts : List Part) → Pairwise PutsPart args parts
-    → Agree ps ts us (used_needs i.needs i.params parts ps) → Gives (used depth m (scope n ps ts) (map (λ a. a (scope n ps ts)) args)) (filling.used depth i (scope n ps us) parts)
-gives_used m i s depth n ps ts us args parts h a t e =
-    subst (λ (qs : List (List ℕ)). Agree ps ts us (used_needs i.needs qs parts ps) → i.body (scope (brackets (brackets n depth) 1) qs (arguments_for i.needs (scope n ps us) qs parts)) ≡ t) s.params put a
+pub gives_used : (m : Meaning) (i : Insert) → SameMeaning m i → (depth n : ℕ) (ps : List (List ℕ)) (ts : List Formula) → length ts ≡ length ps → (args : List (Expands Formula)) (parts : List Part) → Pairwise PutsPart args parts
+    → Gives (used depth m (scope n ps ts) (map (λ a. a (scope n ps ts)) args)) (filling.used depth i (scope n ps ts) parts)
+gives_used m i s depth n ps ts l args parts h t e = by (fed (used_with depth m (scope n ps ts)) (all_of (map sorted (map (λ a. a (scope n ps ts)) args))) t e)
   where
-    by : Fed (used_with depth m (scope n ps ts)) (all_of (map sorted (map (λ a. a (scope n ps ts)) args))) t → Agree ps ts us (used_needs i.needs m.params parts ps)
-        → i.body (scope (brackets (brackets n depth) 1) m.params (arguments_for i.needs (scope n ps us) m.params parts)) ≡ t
-    by k b =
+    by : Fed (used_with depth m (scope n ps ts)) (all_of (map sorted (map (λ a. a (scope n ps ts)) args))) t → filling.used depth i (scope n ps ts) parts ≡ t
+    by k =
         let w = tested (length k.from == length m.params) (of_sort m.sort (m.body (scope (brackets (brackets n depth) 1) m.params k.from))) t k.gave in
         let long : length k.from ≡ length m.params = (Decides-eqb (length k.from) (length m.params)).0 w.0 in
-        s.body (brackets (brackets n depth) 1) k.from (arguments_for i.needs (scope n ps us) m.params parts) (arguments_agree n ps ts us i.needs m.params args parts h b k.from k.is long) t
-        (of_sort_is m.sort (m.body (scope (brackets (brackets n depth) 1) m.params k.from)) t w.1)
-
-    put : Agree ps ts us (used_needs i.needs m.params parts ps) → i.body (scope (brackets (brackets n depth) 1) m.params (arguments_for i.needs (scope n ps us) m.params parts)) ≡ t
-    put b = by (fed (used_with depth m (scope n ps ts)) (all_of (map sorted (map (λ a. a (scope n ps ts)) args))) t e) b
+        ap (λ (es : List Formula). i.body (scope (brackets (brackets n depth) 1) i.params es)) (arguments_same n ps ts l args parts h k.from k.is)
+        ∙ (ap (λ (qs : List (List ℕ)). i.body (scope (brackets (brackets n depth) 1) qs k.from)) (sym s.params)
+        ∙ s.body (brackets (brackets n depth) 1) k.from long t (of_sort_is m.sort (m.body (scope (brackets (brackets n depth) 1) m.params k.from)) t w.1))
 
 -- ---- names
 
--- a use without arguments needs no name
-unused : (needed : List ℕ → Bool) (qs ps : List (List ℕ)) (x : List ℕ) → used_needs needed qs [] ps x ≡ true → ⊥
-unused needed [] ps x e = absurd (cc)
-unused needed (q ∷ qs) ps x e = absurd (cc)
-
 -- what a name stands for is what it becomes
-gives_named : (m : Option Meaning) (i : Option Insert) → SameMeant m i → (n : ℕ) (ps : List (List ℕ)) (ts us : List Formula) → length ts ≡ length ps → length us ≡ length ps → (o : Option Formula) (at : Place) (x : List ℕ)
-    → Gives (named m o (scope n ps ts) at x) (filling.named i o (scope n ps us) at x)
-gives_named m i h n ps ts us l k (Some e) at x = gives_some (deeper (brackets 1 at.depth) e)
-gives_named None None h n ps ts us l k None at x = gives_some (formula.Name (deeper_place n at) x)
-gives_named None (Some i) h n ps ts us l k None at x = absurd h
-gives_named (Some m) None h n ps ts us l k None at x = absurd h
-gives_named (Some m) (Some i) h n ps ts us l k None at x =
-    gives_used m i h at.depth n ps ts us [] [] tt (record { many = l; as_many = k; same = λ y e. absurd (unused i.needs i.params ps y e) })
+gives_named : (m : Option Meaning) (i : Option Insert) → SameMeant m i → (n : ℕ) (ps : List (List ℕ)) (ts : List Formula) → length ts ≡ length ps → (o : Option Formula) (at : Place) (x : List ℕ)
+    → Gives (named m o (scope n ps ts) at x) (filling.named i o (scope n ps ts) at x)
+gives_named m i h n ps ts l (Some e) at x = gives_some (deeper (brackets 1 at.depth) e)
+gives_named None None h n ps ts l None at x = gives_some (formula.Name (deeper_place n at) x)
+gives_named None (Some i) h n ps ts l None at x = absurd h
+gives_named (Some m) None h n ps ts l None at x = absurd h
+gives_named (Some m) (Some i) h n ps ts l None at x = gives_used m i h at.depth n ps ts l [] [] tt
 
 -- a name gives what it becomes
 pub name_puts : (means : Meanings) (inserts : Inserts) → SameNames means inserts → (at : Place) (x : List ℕ)
-    → Puts (λ s. named (means x) (option_and_then (slice_get s.trees) (position (bytes_eq x) s.params)) s at x) (λ ps y. bytes_eq y x) (λ s. filling.named (inserts x) (option_and_then (slice_get s.trees) (position (bytes_eq x) s.params)) s at x)
-name_puts means inserts h at x = record { gives = go }
-  where
-    go : (n : ℕ) (ps : List (List ℕ)) (ts us : List Formula) → Agree ps ts us (λ y. bytes_eq y x)
-        → Gives (named (means x) (option_and_then (slice_get ts) (position (bytes_eq x) ps)) (scope n ps ts) at x) (filling.named (inserts x) (option_and_then (slice_get us) (position (bytes_eq x) ps)) (scope n ps us) at x)
-    go n ps ts us a t e =
-        let same : option_and_then (slice_get us) (position (bytes_eq x) ps) ≡ option_and_then (slice_get ts) (position (bytes_eq x) ps)
-        = looks ps us x ∙ a.same x ((bytes_eq-Decides x x).1 refl) ∙ sym (looks ps ts x) in
-        ap (λ (o : Option Formula). filling.named (inserts x) o (scope n ps us) at x) same
-        ∙ gives_named (means x) (inserts x) (h.at x) n ps ts us a.many a.as_many (option_and_then (slice_get ts) (position (bytes_eq x) ps)) at x t e
+    → Puts (λ s. named (means x) (tree_of s x) s at x) (λ s. filling.named (inserts x) (tree_of s x) s at x)
+name_puts means inserts h at x = record { gives = λ n ps ts l. gives_named (means x) (inserts x) (h.at x) n ps ts l (tree_of (scope n ps ts) x) at x }
 
 -- ---- names that are called
 

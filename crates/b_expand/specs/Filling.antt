@@ -1,6 +1,6 @@
--- The tree that a formula becomes when its definitions are put in, for a formula whose definitions may be put in: nothing
--- is looked at twice, and an argument without a place in the tree isn't put in.
-use Rattle.std.specs.Prelude.{ℕ, Bool, false, ◌&&◌, ◌||◌, if◌then◌else◌, ◌==◌, length, List, [], ◌∷◌, map, fold, position, bytes_eq, Option, Some, None, is_some, option_and_then}
+-- The tree that a formula becomes when its definitions are put in, without a look at whether they may be, and how many
+-- steps that takes where an argument is looked at only where its parameter stands.
+use Rattle.std.specs.Prelude.{ℕ, Bool, false, ◌+◌, if◌then◌else◌, ◌==◌, length, List, [], ◌∷◌, map, fold, position, slice_get, bytes_eq, Option, Some, None, is_some, option_and_then}
 use Rattle.std.specs.List.{list_all}
 use Rattle.b_ast.specs.declared.Place.{Place}
 use Rattle.b_ast.specs.declared.Bound.{Bound}
@@ -18,20 +18,20 @@ use Rattle.b_expand.specs.Expansion.{Scope, tree_of, expanded_operator, is_comma
 
 -- ---- parts
 
--- under some parameters, whether a name has a place in a tree
-abbrev pub Needs : Type 0
-Needs = List (List ℕ) → List ℕ → Bool
+-- how many steps, by the parameters and the steps of the arguments for them
+abbrev pub Steps : Type 0
+Steps = List (List ℕ) → List ℕ → ℕ
 
--- a tree in each scope, and the names that have a place in it
+-- a tree in each scope
 pub record Part : Type 0 where
   pub tree : Scope → Formula
-  pub needs : Needs
+  pub steps : Steps
 
--- what a definition's name means at its uses: the parameters, which of them have a place in the body, and its tree
+-- what a definition's name means at its uses: the parameters, the body's tree, and its steps by those of the arguments
 pub record Insert : Type 0 where
   pub params : List (List ℕ)
-  pub needs : List ℕ → Bool
   pub body : Scope → Formula
+  pub steps : List ℕ → ℕ
 
 -- what names mean: nothing, or a definition
 abbrev pub Inserts : Type 0
@@ -48,7 +48,7 @@ pub record Filling : Type 0 where
 pub record Form : Type 0 where
   pub arguments : Option (List Part)
   pub form : Scope → After
-  pub needs : Needs
+  pub steps : Steps
 
 -- a link of a chain
 pub record Side : Type 0 where
@@ -56,38 +56,54 @@ pub record Side : Type 0 where
   pub operand : Part
   pub link : Scope → Link
 
--- ---- names with a place
+-- ---- steps
 
-abbrev pub needs_nothing : Needs
-needs_nothing ps x = false
+abbrev pub total : List Part → Steps
+total [] ps ns = 0
+total (a ∷ args) ps ns = a.steps ps ns + total args ps ns
 
-abbrev pub any_needs : List Part → Needs
-any_needs [] ps x = false
-any_needs (a ∷ args) ps x = a.needs ps x || any_needs args ps x
+abbrev pub form_total : List Form → Steps
+form_total [] ps ns = 0
+form_total (f ∷ fs) ps ns = f.steps ps ns + form_total fs ps ns
 
-abbrev pub any_form_needs : List Form → Needs
-any_form_needs [] ps x = false
-any_form_needs (f ∷ fs) ps x = f.needs ps x || any_form_needs fs ps x
+-- one for a part, and those of its parts
+abbrev pub one_more : List Part → Steps
+one_more args ps ns = 1 + total args ps ns
 
--- of the arguments of a use, those whose parameters have a place
-abbrev pub used_needs : (List ℕ → Bool) → List (List ℕ) → List Part → Needs
-used_needs needed (q ∷ qs) (a ∷ args) ps x = (needed q && a.needs ps x) || used_needs needed qs args ps x
-used_needs needed qs args ps x = false
+abbrev pub or_none : Option ℕ → ℕ
+or_none None = 0
+or_none (Some n) = n
+
+-- the steps of the argument for a parameter
+abbrev pub argument_steps : List (List ℕ) → List ℕ → List ℕ → ℕ
+argument_steps ps ns x = or_none (option_and_then (slice_get ns) (position (bytes_eq x) ps))
+
+-- the steps of a body
+abbrev pub used_steps : Option Insert → List ℕ → ℕ
+used_steps None ns = 0
+used_steps (Some m) ns = m.steps ns
+
+abbrev pub named_steps : Option Insert → List ℕ → Steps
+named_steps m x ps ns = 1 + (argument_steps ps ns x + used_steps m [])
 
 -- ---- uses
 
--- what stands for an argument that has no place
+-- the parameters of a definition, if there is one
+abbrev pub params_of : Option Def → List (List ℕ)
+params_of None = []
+params_of (Some d) = d.params
+
+-- what stands for a substitution, which is no formula
 abbrev pub nothing : Formula
 nothing = formula.Number (record { machine = false; at = 0; depth = 0 }) 0
 
 -- the trees that stand for the parameters
-abbrev pub arguments_for : (List ℕ → Bool) → Scope → List (List ℕ) → List Part → List Formula
-arguments_for needed s (q ∷ qs) (a ∷ args) = (if needed q then a.tree s else nothing) ∷ arguments_for needed s qs args
-arguments_for needed s qs args = []
+abbrev pub trees_of : List Part → Scope → List Formula
+trees_of args s = map (λ a. a.tree s) args
 
 -- a use, at a place with so many brackets open
 abbrev pub used : ℕ → Insert → Scope → List Part → Formula
-used depth m s args = m.body (record { round = brackets (brackets s.round depth) 1; params = m.params; trees = arguments_for m.needs s m.params args })
+used depth m s args = m.body (record { round = brackets (brackets s.round depth) 1; params = m.params; trees = trees_of args s })
 
 -- what a name stands for
 abbrev pub named : Option Insert → Option Formula → Scope → Place → List ℕ → Formula
@@ -129,22 +145,19 @@ abbrev pub row : Option (ℕ × Insert) → Filling → List Form → Scope → 
 row (Some m) r fs s = applied m (first_arguments fs) r fs s
 row None r fs s = plain_row r fs s
 
-abbrev pub plain_row_needs : Filling → List Form → Needs
-plain_row_needs r fs ps x = r.part.needs ps x || any_form_needs fs ps x
+-- those of the body of the definition that a head calls, where the forms begin with arguments
+abbrev pub called_steps : Option (ℕ × Insert) → Option (List Part) → Steps
+called_steps (Some m) (Some args) ps ns = m.1.steps (map (λ a. a.steps ps ns) args)
+called_steps m args ps ns = 0
 
-abbrev pub applied_needs : ℕ × Insert → Option (List Part) → Filling → List Form → Needs
-applied_needs m (Some args) r fs ps x = used_needs m.1.needs m.1.params args ps x || any_form_needs (later_forms fs) ps x
-applied_needs m None r fs ps x = plain_row_needs r fs ps x
-
-abbrev pub row_needs : Option (ℕ × Insert) → Filling → List Form → Needs
-row_needs (Some m) r fs ps x = applied_needs m (first_arguments fs) r fs ps x
-row_needs None r fs ps x = plain_row_needs r fs ps x
+abbrev pub row_steps : Option (ℕ × Insert) → Filling → List Form → Steps
+row_steps m r fs ps ns = 1 + (r.part.steps ps ns + (form_total fs ps ns + called_steps m (first_arguments fs) ps ns))
 
 abbrev pub sides : List Side → List Part
 sides ls = map (λ l. l.operand) ls
 
 abbrev pub chain : Filling → List Side → Part
-chain r ls = record { tree = λ s. formula.Chain (r.part.tree s) (links ls s); needs = any_needs (r.part ∷ sides ls) }
+chain r ls = record { tree = λ s. formula.Chain (r.part.tree s) (links ls s); steps = one_more (r.part ∷ sides ls) }
 
 -- operands between commas are arguments
 abbrev pub chain_arguments : Filling → List Side → List Part
@@ -158,15 +171,15 @@ abbrev pub alone : Part → Filling
 alone p = record { name = None; part = p; arguments = p ∷ [] }
 
 abbrev pub plain : (Scope → Formula) → List Part → Filling
-plain e ps = alone (record { tree = e; needs = any_needs ps })
+plain e ps = alone (record { tree = e; steps = one_more ps })
 
 abbrev pub bound : Scope → List Bound → List Bound
 bound s xs = map (deeper_bound s.round) xs
 
 abbrev pub after_step : After-F Form Filling Side → Form
-after_step (After-F.Converse at) = record { arguments = None; form = λ s. after.Converse (deeper_place s.round at); needs = needs_nothing }
-after_step (After-F.Apply at r) = record { arguments = Some r.arguments; form = λ s. after.Apply (deeper_place s.round at) (r.part.tree s); needs = r.part.needs }
-after_step (After-F.Image at r) = record { arguments = None; form = λ s. after.Image (deeper_place s.round at) (r.part.tree s); needs = r.part.needs }
+after_step (After-F.Converse at) = record { arguments = None; form = λ s. after.Converse (deeper_place s.round at); steps = λ ps ns. 0 }
+after_step (After-F.Apply at r) = record { arguments = Some r.arguments; form = λ s. after.Apply (deeper_place s.round at) (r.part.tree s); steps = r.part.steps }
+after_step (After-F.Image at r) = record { arguments = None; form = λ s. after.Image (deeper_place s.round at) (r.part.tree s); steps = r.part.steps }
 
 abbrev pub link_step : Link-F Form Filling Side → Side
 link_step l = record {
@@ -178,12 +191,12 @@ link_step l = record {
 abbrev pub formula_step : Inserts → Formula-F Form Filling Side → Filling
 formula_step means (Formula-F.Number at k) = plain (λ s. formula.Number (deeper_place s.round at) k) []
 formula_step means (Formula-F.Text at x) = plain (λ s. formula.Text (deeper_place s.round at) x) []
-formula_step means (Formula-F.Name at x) = record (alone (record { tree = λ s. named (means x) (tree_of s x) s at x; needs = λ ps y. bytes_eq y x })) { name = Some (at.depth, x) }
+formula_step means (Formula-F.Name at x) = record (alone (record { tree = λ s. named (means x) (tree_of s x) s at x; steps = named_steps (means x) x })) { name = Some (at.depth, x) }
 formula_step means (Formula-F.Old at x) = plain (λ s. formula.Old (deeper_place s.round at) x) []
 formula_step means (Formula-F.Constant at c) = plain (λ s. formula.Constant (deeper_place s.round at) c) []
 formula_step means (Formula-F.Negative at r) = plain (λ s. formula.Negative (deeper_place s.round at) (r.part.tree s)) (r.part ∷ [])
 formula_step means (Formula-F.Chain r ls) = record (alone (chain r ls)) { arguments = chain_arguments r ls }
-formula_step means (Formula-F.Row r fs) = alone (record { tree = λ s. row (called means s.params r.name) r fs s; needs = λ ps x. row_needs (called means ps r.name) r fs ps x })
+formula_step means (Formula-F.Row r fs) = alone (record { tree = λ s. row (called means s.params r.name) r fs s; steps = λ ps ns. row_steps (called means ps r.name) r fs ps ns })
 formula_step means (Formula-F.Call at f rs) = plain (λ s. formula.Call (deeper_place s.round at) f (trees rs s)) (parts rs)
 formula_step means (Formula-F.Set at rs) = plain (λ s. formula.Set (deeper_place s.round at) (trees rs s)) (parts rs)
 formula_step means (Formula-F.Sequence at rs) = plain (λ s. formula.Sequence (deeper_place s.round at) (trees rs s)) (parts rs)
@@ -203,11 +216,11 @@ side_of means = fold-Link Form Filling Side after_step (formula_step means) link
 
 -- ---- the table
 
--- a definition's formula; a substitution is no formula
+-- a definition's formula
 abbrev pub insert_of : Inserts → List (List ℕ) → DefBody → Insert
-insert_of means ps (body.Expr e) = record { params = ps; needs = (filling means e.formula).part.needs ps; body = (filling means e.formula).part.tree }
-insert_of means ps (body.Pred p) = record { params = ps; needs = (filling means p.formula).part.needs ps; body = (filling means p.formula).part.tree }
-insert_of means ps (body.Subst u) = record { params = ps; needs = λ x. false; body = λ s. nothing }
+insert_of means ps (body.Expr e) = record { params = ps; body = (filling means e.formula).part.tree; steps = (filling means e.formula).part.steps ps }
+insert_of means ps (body.Pred p) = record { params = ps; body = (filling means p.formula).part.tree; steps = (filling means p.formula).part.steps ps }
+insert_of means ps (body.Subst u) = record { params = ps; body = λ s. nothing; steps = λ ns. 0 }
 
 abbrev pub first_of : Option Insert → Option Insert → Option Insert
 first_of (Some m) o = Some m

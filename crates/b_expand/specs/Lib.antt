@@ -3,6 +3,6 @@ pub mod Places
 pub mod Expansion
 pub mod Filling
 pub mod Answers
-pub mod Needed
 pub mod Using
 pub mod Standing
+pub mod Settled

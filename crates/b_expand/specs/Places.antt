@@ -1,5 +1,5 @@
 -- How wide and how deep a tree is, and a tree under more brackets.
-use Rattle.std.specs.Prelude.{ℕ, ◌+◌, min, max, List, [], ◌∷◌, map, sum}
+use Rattle.std.specs.Prelude.{ℕ, ◌+◌, min, max, List, [], ◌∷◌, map, sum, Option, Some, None}
 use Rattle.b_ast.specs.declared.Place.{Place}
 use Rattle.b_ast.specs.declared.Bound.{Bound}
 use Rattle.b_ast.specs.declared.Formula.{Formula, fold-Formula}
@@ -93,6 +93,46 @@ depth_of_link = fold-Link ℕ ℕ ℕ after_depth formula_depth link_depth
 abbrev pub depth_of_after : After → ℕ
 depth_of_after = fold-After ℕ ℕ ℕ after_depth formula_depth link_depth
 
+-- ---- other places
+
+abbrev pub after_moved : (Place → Place) → After-F After Formula Link → After
+after_moved f (After-F.Converse at) = after.Converse (f at)
+after_moved f (After-F.Apply at e) = after.Apply (f at) e
+after_moved f (After-F.Image at e) = after.Image (f at) e
+
+abbrev pub moved_bound : (Place → Place) → Bound → Bound
+moved_bound f x = record x { at = f x.at }
+
+abbrev pub formula_moved : (Place → Place) → Formula-F After Formula Link → Formula
+formula_moved f (Formula-F.Number at k) = formula.Number (f at) k
+formula_moved f (Formula-F.Text at x) = formula.Text (f at) x
+formula_moved f (Formula-F.Name at x) = formula.Name (f at) x
+formula_moved f (Formula-F.Old at x) = formula.Old (f at) x
+formula_moved f (Formula-F.Constant at c) = formula.Constant (f at) c
+formula_moved f (Formula-F.Negative at e) = formula.Negative (f at) e
+formula_moved f (Formula-F.Chain e ls) = formula.Chain e ls
+formula_moved f (Formula-F.Row e fs) = formula.Row e fs
+formula_moved f (Formula-F.Call at g es) = formula.Call (f at) g es
+formula_moved f (Formula-F.Set at es) = formula.Set (f at) es
+formula_moved f (Formula-F.Sequence at es) = formula.Sequence (f at) es
+formula_moved f (Formula-F.Comprehension at xs p) = formula.Comprehension (f at) (map (moved_bound f) xs) p
+formula_moved f (Formula-F.Quantified at q xs p) = formula.Quantified (f at) q (map (moved_bound f) xs) p
+formula_moved f (Formula-F.Collected at c xs p e) = formula.Collected (f at) c (map (moved_bound f) xs) p e
+formula_moved f (Formula-F.If at p e g) = formula.If (f at) p e g
+
+abbrev pub link_moved : (Place → Place) → Link-F After Formula Link → Link
+link_moved f l = roll-Link (record l { at = f l.at })
+
+-- the tree with other places
+abbrev pub moved : (Place → Place) → Formula → Formula
+moved f = fold-Formula After Formula Link (after_moved f) (formula_moved f) (link_moved f)
+
+abbrev pub moved_link : (Place → Place) → Link → Link
+moved_link f = fold-Link After Formula Link (after_moved f) (formula_moved f) (link_moved f)
+
+abbrev pub moved_after : (Place → Place) → After → After
+moved_after f = fold-After After Formula Link (after_moved f) (formula_moved f) (link_moved f)
+
 -- ---- under more brackets
 
 -- so many brackets and so many more: numbers past 101 aren't told apart
@@ -104,39 +144,33 @@ abbrev pub deeper_place : ℕ → Place → Place
 deeper_place n at = record at { depth = brackets n at.depth }
 
 abbrev pub deeper_bound : ℕ → Bound → Bound
-deeper_bound n x = record x { at = deeper_place n x.at }
+deeper_bound n = moved_bound (deeper_place n)
 
 abbrev pub after_deeper : ℕ → After-F After Formula Link → After
-after_deeper n (After-F.Converse at) = after.Converse (deeper_place n at)
-after_deeper n (After-F.Apply at e) = after.Apply (deeper_place n at) e
-after_deeper n (After-F.Image at e) = after.Image (deeper_place n at) e
+after_deeper n = after_moved (deeper_place n)
 
 abbrev pub formula_deeper : ℕ → Formula-F After Formula Link → Formula
-formula_deeper n (Formula-F.Number at k) = formula.Number (deeper_place n at) k
-formula_deeper n (Formula-F.Text at x) = formula.Text (deeper_place n at) x
-formula_deeper n (Formula-F.Name at x) = formula.Name (deeper_place n at) x
-formula_deeper n (Formula-F.Old at x) = formula.Old (deeper_place n at) x
-formula_deeper n (Formula-F.Constant at c) = formula.Constant (deeper_place n at) c
-formula_deeper n (Formula-F.Negative at e) = formula.Negative (deeper_place n at) e
-formula_deeper n (Formula-F.Chain e ls) = formula.Chain e ls
-formula_deeper n (Formula-F.Row e fs) = formula.Row e fs
-formula_deeper n (Formula-F.Call at f es) = formula.Call (deeper_place n at) f es
-formula_deeper n (Formula-F.Set at es) = formula.Set (deeper_place n at) es
-formula_deeper n (Formula-F.Sequence at es) = formula.Sequence (deeper_place n at) es
-formula_deeper n (Formula-F.Comprehension at xs p) = formula.Comprehension (deeper_place n at) (map (deeper_bound n) xs) p
-formula_deeper n (Formula-F.Quantified at q xs p) = formula.Quantified (deeper_place n at) q (map (deeper_bound n) xs) p
-formula_deeper n (Formula-F.Collected at c xs p e) = formula.Collected (deeper_place n at) c (map (deeper_bound n) xs) p e
-formula_deeper n (Formula-F.If at p e f) = formula.If (deeper_place n at) p e f
+formula_deeper n = formula_moved (deeper_place n)
 
 abbrev pub link_deeper : ℕ → Link-F After Formula Link → Link
-link_deeper n l = roll-Link (record l { at = deeper_place n l.at })
+link_deeper n = link_moved (deeper_place n)
 
 -- the tree under so many more brackets
 abbrev pub deeper : ℕ → Formula → Formula
-deeper n = fold-Formula After Formula Link (after_deeper n) (formula_deeper n) (link_deeper n)
+deeper n = moved (deeper_place n)
 
 abbrev pub deeper_link : ℕ → Link → Link
-deeper_link n = fold-Link After Formula Link (after_deeper n) (formula_deeper n) (link_deeper n)
+deeper_link n = moved_link (deeper_place n)
 
 abbrev pub deeper_after : ℕ → After → After
-deeper_after n = fold-After After Formula Link (after_deeper n) (formula_deeper n) (link_deeper n)
+deeper_after n = moved_after (deeper_place n)
+
+-- a place under so many more brackets, or under no others
+abbrev pub raised_place : Option ℕ → Place → Place
+raised_place None at = at
+raised_place (Some n) at = deeper_place n at
+
+-- so many more brackets under those, if there are any
+abbrev pub raised : Option ℕ → ℕ → ℕ
+raised None n = n
+raised (Some m) n = brackets m n

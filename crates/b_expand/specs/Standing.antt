@@ -1,118 +1,130 @@
--- What the records of a text say: the definitions that it may use, and its scope.
-use Rattle.std.specs.Prelude.{◌≡◌, ℕ, nat_lt, Bool, cond, List, length, map, take, Option, Some, None, slice_get, option_map}
+-- What the records of a text say: what names mean in it, and the scope that it stands in.
+use Rattle.std.specs.Prelude.{ℕ, nat_lt, cond, List, [], ◌∷◌, map, take, Option, Some, None, slice_get, option_map}
+use Rattle.std.specs.Option.{option_copied}
+use Rattle.b_ast.specs.declared.Place.{Place}
 use Rattle.b_ast.specs.declared.machine.Def.{Def}
 use Rattle.b_ast.specs.declared.machine.DefBody.{DefBody}
 use Rattle.b_ast.specs.declared.Formula.{Formula}
 use Rattle.b_ast.specs.declared.Link.{Link}
 use Rattle.b_ast.specs.declared.After.{After}
-use Rattle.b_names.specs.declared.places.Index.{Index}
-use Rattle.b_names.specs.Index.{answer_of, place_of}
-use Rattle.b_expand.specs.declared.names.Names.{Names}
-use Rattle.b_expand.specs.declared.expander.Standing.{Standing}
-use Rattle.b_expand.specs.Places.{brackets}
+use Rattle.b_names.specs.declared.places.TableIndex.{TableIndex}
+use Rattle.b_names.specs.Index.{IsTableIndex}
+use Rattle.b_expand.specs.declared.standing.Table.{Table}
+use Rattle.b_expand.specs.declared.standing.Arguments.{Arguments}
+use Rattle.b_expand.specs.declared.standing.Frame.{Frame}
+use Rattle.b_expand.specs.declared.standing.Standing.{Standing}
+use Rattle.b_expand.specs.Places.{brackets, deeper_place, moved, moved_link, moved_after, raised_place}
 use Rattle.b_expand.specs.Expansion.{Scope}
 use Rattle.b_expand.specs.Filling as spec
 use Rattle.b_expand.specs.Filling.{Insert, Inserts, Filling, Form, Side, Part}
-use Rattle.b_expand.specs.Needed.{rows, listed_trees}
+
+-- the index is that of the table
+unfoldable pub IsIndexed : List Def → TableIndex → Type 0
+IsIndexed ds index = IsTableIndex ds index
+
+abbrev pub IsReady : Table → Type 0
+IsReady t = IsIndexed t.defs.now t.index.now
 
 -- ---- what names mean
-
-abbrev pub means_in : Names → Inserts
-means_in n = spec.inserts n.before.now
-
--- the definition at a place of those that the text may use
-abbrev pub insert_at : Names → ℕ → Option Insert
-insert_at n i = option_map (λ d. spec.insert_of (spec.inserts (take i n.before.now)) d.params d.body) (slice_get n.before.now i)
 
 -- a place, where it is less than a bound
 abbrev pub until : ℕ → Option ℕ → Option ℕ
 until bound None = None
 until bound (Some i) = cond (nat_lt i bound) (Some i) None
 
--- below the end of some definitions the index of a table answers as a search through them does
-unfoldable pub IsKnown : List Def → Index → Type 0
-IsKnown ds index = (x : List ℕ) → until (length ds) (answer_of index x) ≡ place_of ds x
+-- the parameters of the definition at a place
+abbrev pub params_at : List Def → ℕ → List (List ℕ)
+params_at ds k = spec.params_of (slice_get ds k)
 
--- the rows are those of some definitions, and the index knows these
-abbrev pub AreNeedsOf : List Def → List (List Bool) → Index → Type 0
-AreNeedsOf ds rs index = record {
-  needed : rs ≡ rows ds;
-  known : IsKnown ds index;
-}
+-- what names mean in the body of the definition at a place: one of the definitions before it
+abbrev pub means_at : List Def → ℕ → Inserts
+means_at ds k = spec.inserts (take k ds)
 
--- the rows are those of the definitions, and the index knows these
-abbrev pub AreNeeds : Names → Type 0
-AreNeeds n = AreNeedsOf n.before.now n.needed.now n.index.now
+abbrev pub insert_of_first : List Def → ℕ → Option Insert
+insert_of_first ds i = option_map (λ d. spec.insert_of (spec.inserts (take i ds)) d.params d.body) (slice_get ds i)
 
-abbrev pub filling_in : Names → Formula → Filling
-filling_in n = spec.filling (means_in n)
+abbrev pub params_in : Standing → List (List ℕ)
+params_in t = params_at t.table.defs.now t.here.place
 
-abbrev pub form_in : Names → After → Form
-form_in n = spec.form_of (means_in n)
+abbrev pub means_in : Standing → Inserts
+means_in t = means_at t.table.defs.now t.here.place
 
-abbrev pub side_in : Names → Link → Side
-side_in n = spec.side_of (means_in n)
+-- the definition at a place of those that a text may use
+abbrev pub insert_at : Standing → ℕ → Option Insert
+insert_at t i = insert_of_first (take t.here.place t.table.defs.now) i
+
+abbrev pub filling_in : Standing → Formula → Filling
+filling_in t = spec.filling (means_in t)
+
+abbrev pub form_in : Standing → After → Form
+form_in t = spec.form_of (means_in t)
+
+abbrev pub side_in : Standing → Link → Side
+side_in t = spec.side_of (means_in t)
 
 -- the definition that the head of a row calls
-abbrev pub called_in : Names → Formula → Option (ℕ × Insert)
-called_in n e = spec.called (means_in n) n.params.now (filling_in n e).name
+abbrev pub called_in : Standing → Formula → Option (ℕ × Insert)
+called_in t e = spec.called (means_in t) (params_in t) (filling_in t e).name
 
--- ---- names with a place
+-- ---- arguments
 
-abbrev pub needs_in : Names → Formula → List ℕ → Bool
-needs_in n e x = (filling_in n e).part.needs n.params.now x
+abbrev pub first_part : Inserts → Option Formula → List Link → List Part
+first_part means None ls = []
+first_part means (Some e) ls = (spec.filling means e).part ∷ spec.sides (map (spec.side_of means) ls)
 
-abbrev pub any_need : Names → List Formula → List ℕ → Bool
-any_need n es x = spec.any_needs (spec.parts (map (filling_in n) es)) n.params.now x
+-- the arguments that stand in a text
+abbrev pub parts_in : Inserts → Arguments → List Part
+parts_in means a = first_part means (option_copied a.first) a.others.now
 
-abbrev pub any_link_needs : Names → List Link → List ℕ → Bool
-any_link_needs n ls x = spec.any_needs (spec.sides (map (side_in n) ls)) n.params.now x
+-- the trees of the arguments for a text's parameters, which stand in the text that uses it
+abbrev pub trees_at : List Def → Frame → List Frame → List Formula
+trees_at ds f [] = []
+trees_at ds f (g ∷ gs) = spec.trees_of (parts_in (means_at ds g.place) f.arguments) (record { round = g.round; params = params_at ds g.place; trees = trees_at ds g gs })
 
-abbrev pub any_form_needs : Names → List After → List ℕ → Bool
-any_form_needs n fs x = spec.any_form_needs (map (form_in n) fs) n.params.now x
+-- their steps
+abbrev pub steps_at : List Def → Frame → List Frame → List ℕ
+steps_at ds f [] = []
+steps_at ds f (g ∷ gs) = map (λ a. a.steps (params_at ds g.place) (steps_at ds g gs)) (parts_in (means_at ds g.place) f.arguments)
 
-abbrev pub row_needs_in : Names → Formula → List After → List ℕ → Bool
-row_needs_in n e fs x = spec.row_needs (called_in n e) (filling_in n e) (map (form_in n) fs) n.params.now x
+abbrev pub trees_in_scope : Standing → List Formula
+trees_in_scope t = trees_at t.table.defs.now t.here t.callers.now
 
-abbrev pub plain_row_needs_in : Names → Formula → List After → List ℕ → Bool
-plain_row_needs_in n e fs x = spec.plain_row_needs (filling_in n e) (map (form_in n) fs) n.params.now x
+abbrev pub scope_of : Standing → Scope
+scope_of t = record { round = t.here.round; params = params_in t; trees = trees_in_scope t }
 
-abbrev pub called_needs_in : Names → Option (ℕ × Insert) → Formula → List After → List ℕ → Bool
-called_needs_in n m e fs x = spec.row_needs m (filling_in n e) (map (form_in n) fs) n.params.now x
+abbrev pub argument_steps_in : Standing → List ℕ
+argument_steps_in t = steps_at t.table.defs.now t.here t.callers.now
 
 -- ---- trees
 
-abbrev pub scope_of : Standing → Scope
-scope_of t = record { round = t.round; params = t.names.params.now; trees = t.trees.now }
+-- a place of the text under all brackets
+abbrev pub place_in : Standing → Place → Place
+place_in t at = raised_place t.extra (deeper_place t.here.round at)
 
 -- the tree that a tree of the text becomes
 abbrev pub tree_in : Standing → Formula → Formula
-tree_in t e = (filling_in t.names e).part.tree (scope_of t)
+tree_in t e = (filling_in t e).part.tree (scope_of t)
+
+abbrev pub raise : Standing → Formula → Formula
+raise t = moved (raised_place t.extra)
+
+abbrev pub raise_link : Standing → Link → Link
+raise_link t = moved_link (raised_place t.extra)
+
+abbrev pub raise_form : Standing → After → After
+raise_form t = moved_after (raised_place t.extra)
 
 abbrev pub trees_in : Standing → List Formula → List Formula
-trees_in t es = spec.trees (map (filling_in t.names) es) (scope_of t)
+trees_in t es = map (raise t) (spec.trees (map (filling_in t) es) (scope_of t))
 
 abbrev pub links_in : Standing → List Link → List Link
-links_in t ls = spec.links (map (side_in t.names) ls) (scope_of t)
+links_in t ls = map (raise_link t) (spec.links (map (side_in t) ls) (scope_of t))
 
 abbrev pub forms_in : Standing → List After → List After
-forms_in t fs = spec.forms (map (form_in t.names) fs) (scope_of t)
+forms_in t fs = map (raise_form t) (spec.forms (map (form_in t) fs) (scope_of t))
 
-abbrev pub row_in : Standing → Formula → List After → Formula
-row_in t e fs = spec.row (called_in t.names e) (filling_in t.names e) (map (form_in t.names) fs) (scope_of t)
-
-abbrev pub called_row_in : Standing → Option (ℕ × Insert) → Formula → List After → Formula
-called_row_in t m e fs = spec.row m (filling_in t.names e) (map (form_in t.names) fs) (scope_of t)
-
-abbrev pub plain_row_in : Standing → Formula → List After → Formula
-plain_row_in t e fs = spec.plain_row (filling_in t.names e) (map (form_in t.names) fs) (scope_of t)
-
--- the trees that the arguments of a use become, by what is needed
-abbrev pub arguments_in : Standing → Formula → List Bool → List Formula
-arguments_in t e bs = listed_trees (filling_in t.names e).arguments bs (scope_of t)
-
-abbrev pub operands_in : Standing → List Link → List Bool → List Formula
-operands_in t ls bs = listed_trees (spec.sides (map (side_in t.names) ls)) bs (scope_of t)
+abbrev pub row_in : Standing → Option (ℕ × Insert) → Formula → List After → Formula
+row_in t m e fs = spec.row m (filling_in t e) (map (form_in t) fs) (scope_of t)
 
 -- the body of a definition with trees for its parameters
 abbrev pub body_of : Option Insert → ℕ → List Formula → Formula
@@ -120,15 +132,40 @@ body_of (Some m) round es = m.body (record { round = round; params = m.params; t
 body_of None round es = spec.nothing
 
 abbrev pub round_in : Standing → ℕ → ℕ
-round_in t depth = brackets (brackets t.round depth) 1
+round_in t depth = brackets (brackets t.here.round depth) 1
 
 -- a use of the definition at a place
-abbrev pub used_in : Standing → ℕ → ℕ → List Formula → Formula
-used_in t i depth es = body_of (insert_at t.names i) (round_in t depth) es
-
--- a use of a definition that may use some
-abbrev pub definition_in : Standing → Def → List Def → ℕ → List Formula → Formula
-definition_in t d ds depth es = body_of (Some (spec.insert_of (spec.inserts ds) d.params d.body)) (round_in t depth) es
+abbrev pub used_in : Standing → ℕ → ℕ → Arguments → Formula
+used_in t i depth a = body_of (insert_at t i) (round_in t depth) (spec.trees_of (parts_in (means_in t) a) (scope_of t))
 
 abbrev pub body_in : Standing → DefBody → Formula
-body_in t b = (spec.insert_of (means_in t.names) t.names.params.now b).body (scope_of t)
+body_in t b = (spec.insert_of (means_in t) (params_in t) b).body (scope_of t)
+
+-- ---- steps
+
+abbrev pub steps_in : Standing → Formula → ℕ
+steps_in t e = (filling_in t e).part.steps (params_in t) (argument_steps_in t)
+
+abbrev pub steps_of_all : Standing → List Formula → ℕ
+steps_of_all t es = spec.total (spec.parts (map (filling_in t) es)) (params_in t) (argument_steps_in t)
+
+abbrev pub steps_of_link : Standing → Link → ℕ
+steps_of_link t l = (side_in t l).operand.steps (params_in t) (argument_steps_in t)
+
+abbrev pub steps_of_links : Standing → List Link → ℕ
+steps_of_links t ls = spec.total (spec.sides (map (side_in t) ls)) (params_in t) (argument_steps_in t)
+
+abbrev pub steps_of_form : Standing → After → ℕ
+steps_of_form t f = (form_in t f).steps (params_in t) (argument_steps_in t)
+
+abbrev pub steps_of_forms : Standing → List After → ℕ
+steps_of_forms t fs = spec.form_total (map (form_in t) fs) (params_in t) (argument_steps_in t)
+
+abbrev pub steps_of_use : Standing → ℕ → Arguments → ℕ
+steps_of_use t i a = spec.used_steps (insert_at t i) (map (λ p. p.steps (params_in t) (argument_steps_in t)) (parts_in (means_in t) a))
+
+abbrev pub steps_of_body : Standing → DefBody → ℕ
+steps_of_body t b = (spec.insert_of (means_in t) (params_in t) b).steps (argument_steps_in t)
+
+abbrev pub steps_of_call : Standing → Option (ℕ × Insert) → List After → ℕ
+steps_of_call t m fs = spec.called_steps m (spec.first_arguments (map (form_in t) fs)) (params_in t) (argument_steps_in t)

@@ -1,70 +1,67 @@
 //! Formulas with their definitions put in.
 #![tactic(auto)]
 
-ghost use Rattle.std.specs.Prelude.{◌≡◌, IfOk, IfSome};
+ghost use Rattle.std.specs.Prelude.{◌≡◌, ◌≤◌, IfOk, IfSome};
 ghost use Rattle.b_expand.specs.Expansion.{expansion};
 ghost use Rattle.b_expand.specs.Filling.{filled};
-ghost use Rattle.b_expand.specs.Standing.{IsKnown};
+ghost use Rattle.b_expand.specs.Places.{deepest};
+ghost use Rattle.b_expand.specs.Standing.{IsIndexed};
 
 mod copies;
-mod expander;
+pub mod expander;
 mod faults;
-mod names;
-mod needs;
-mod parts;
+pub mod names;
+pub mod parts;
 pub mod places;
+mod settled;
+pub mod standing;
 
 use b_ast::Formula;
-use b_ast::machine::{Def, DefTable};
-use b_names::Index;
 pub use copies::{brackets, deeper_place};
-use expander::{Standing, fill};
+use expander::fill;
 pub use faults::{ParseFault, ParseKind, Unexpanded, Unfit};
-use names::{Names, indexed};
-use needs::needed_in;
+use parts::no_arguments;
 pub use parts::{expanded_operator, is_comma};
-use places::has_uses;
+use settled::is_settled;
+pub use standing::{Arguments, Frame, Standing, Table};
 use std::alloc::{AllocError, Global};
 
-/// The tree that a formula becomes when the definitions of a table are put in, without a look at whether they may be. An
-/// argument that has no place in a definition's body costs nothing, nor does the table where none of it is used.
-pub fn expanded(alloc: Global, defs: &DefTable, formula: &Formula) -> Result<Formula, AllocError>
-    ensures value { IfOk result (λ e. e ≡ filled defs.now.defs formula.now) }
-    ensures expands { IfOk result (λ e. IfSome (expansion defs.now.defs formula.now) (λ wanted. e ≡ wanted)) }
+/// The tree that a formula becomes when the definitions of a table are put in, without a look at whether they may be. Each
+/// part is copied once, where it ends up; a formula in which nothing is expanded is given back as it is. The recursion goes
+/// no deeper than the brackets of the tree: a use and a parameter each open one.
+pub fn expanded(alloc: Global, table: &Table<'_>, formula: Formula) -> Result<Formula, AllocError>
+    requires index { IsIndexed table.now.defs.now table.now.index.now }
+    requires shallow { deepest (filled table.now.defs.now formula) ≤ 100 }
+    ensures value { IfOk result (λ e. e ≡ filled table.now.defs.now formula) }
+    ensures expands { IfOk result (λ e. IfSome (expansion table.now.defs.now formula) (λ wanted. e ≡ wanted)) }
 {
-    filled_in(alloc, defs.defs.as_slice(), formula)
+    put_in(alloc, table, formula)
 }
 
-fn filled_in(alloc: Global, table: &[Def], formula: &Formula) -> Result<Formula, AllocError>
-    ensures { IfOk result (λ e. e ≡ filled table.now formula.now) }
+fn put_in(alloc: Global, table: &Table<'_>, formula: Formula) -> Result<Formula, AllocError>
+    requires { IsIndexed table.now.defs.now table.now.index.now }
+    ensures { IfOk result (λ e. e ≡ filled table.now.defs.now formula) }
 {
-    let index = indexed(table, alloc)?;
-    if has_uses(formula, &index) {
-        put_in(alloc, table, &index, formula)
+    if is_settled(&formula, &table.index.definitions) {
+        Ok(formula)
     } else {
-        put_in(alloc, &[], &index, formula)
+        filled_in(alloc, table, &formula)
     }
 }
 
-fn put_in(
-    alloc: Global,
-    table: &[Def],
-    index: &Index,
-    formula: &Formula,
-) -> Result<Formula, AllocError>
-    requires { IsKnown table.now index.now }
-    ensures { IfOk result (λ e. e ≡ filled table.now formula.now) }
+fn filled_in(alloc: Global, table: &Table<'_>, formula: &Formula) -> Result<Formula, AllocError>
+    requires { IsIndexed table.now.defs.now table.now.index.now }
+    ensures { IfOk result (λ e. e ≡ filled table.now.defs.now formula.now) }
 {
-    let needed = needed_in(table, index, alloc)?;
     let text = Standing {
-        names: Names {
-            before: table,
-            needed: needed.as_slice(),
-            index,
-            params: &[],
+        table: *table,
+        here: Frame {
+            place: table.defs.len(),
+            round: 0,
+            arguments: no_arguments(),
         },
-        round: 0,
-        trees: &[],
+        callers: &[],
+        extra: None,
     };
     fill(formula, alloc, &text)
 }

@@ -2,12 +2,16 @@
 ghost use Rattle.std.specs.Prelude.{◌≡◌, [], ◌∷◌, IfOk};
 ghost use Rattle.b_expand.specs.Expansion as spec;
 ghost use Rattle.b_expand.specs.Filling as filling;
+ghost use Rattle.b_expand.specs.Places as places;
+ghost use Rattle.b_expand.specs.Standing.{parts_in};
 
+use crate::copies::raised_place;
+use crate::standing::{Arguments, Frame};
 use b_ast::{After, Formula, Operator, Place};
 use sqlite_items::{Boxed, Items};
 use std::alloc::{AllocError, Global};
 
-/// What stands for an argument that has no place.
+/// What stands for a substitution, which is no formula.
 pub fn nothing() -> Formula
     ensures { result ≡ filling.nothing }
 {
@@ -39,18 +43,42 @@ pub fn is_comma(operator: Operator) -> bool
     }
 }
 
-/// The list with one more tree before it.
-pub fn before(
-    alloc: Global,
-    first: Formula,
-    rest: Items<Formula>,
-) -> Result<Items<Formula>, AllocError>
-    ensures { IfOk result (λ es. es ≡ first ∷ rest) }
+/// The same under so many more brackets, if there are any.
+pub fn nothing_raised(extra: Option<u64>) -> Formula
+    ensures { result ≡ places.moved (places.raised_place extra) filling.nothing }
 {
-    let mut items = Items::new(alloc);
-    items.push(first)?;
-    items.append(rest)?;
-    Ok(items)
+    let at = Place {
+        machine: false,
+        at: 0,
+        depth: 0,
+    };
+    Formula::Number(raised_place(extra, at), 0)
+}
+
+/// No arguments.
+pub fn no_arguments<'a>() -> Arguments<'a>
+    ensures { (means : filling.Inserts) → parts_in means result ≡ [] }
+{
+    Arguments {
+        first: None,
+        others: &[],
+    }
+}
+
+/// The texts with one more before them.
+pub fn pushed<'a>(
+    alloc: Global,
+    first: Frame<'a>,
+    rest: &[Frame<'a>],
+) -> Result<Items<Frame<'a>>, AllocError>
+    ensures { IfOk result (λ fs. fs ≡ first.entry ∷ rest.now) }
+{
+    let mut frames = Items::new(alloc);
+    frames.push(first)?;
+    for frame in rest {
+        frames.push(*frame)?;
+    }
+    Ok(frames)
 }
 
 /// A use with the forms after its arguments.

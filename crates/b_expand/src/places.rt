@@ -1,5 +1,5 @@
 //! Places that help a user to see why a formula is refused.
-ghost use Rattle.std.specs.Prelude.{◌≡◌, is_some, map};
+ghost use Rattle.std.specs.Prelude.{◌≡◌, map};
 ghost use Rattle.b_expand.specs.Using as spec;
 
 use b_ast::{After, Formula, Link};
@@ -50,13 +50,6 @@ fn either(first: Option<u64>, second: Option<u64>) -> Option<u64>
         Some(at) => Some(at),
         None => second,
     }
-}
-
-/// Whether a formula uses definitions.
-pub(crate) fn has_uses(tree: &Formula, index: &Index) -> bool
-    ensures { result ≡ is_some (spec.first_use index.now tree.now) }
-{
-    first_use(tree, index).is_some()
 }
 
 #[cycle(first_use)]

@@ -1,5 +1,6 @@
 //! Formulas with their definitions expanded.
 ghost use Rattle.std.specs.Prelude.{◌≡◌, ◌≤◌, length};
+ghost use Rattle.b_definitions.specs.Arranging.{HasCircle, HasNoCircle};
 ghost use Rattle.b_lex.specs.Reading.{AreSpans};
 ghost use Rattle.b_parse_expr.specs.Verdicts as spec;
 ghost use Rattle.b_summaries.specs.Made.{IsMade};
@@ -7,6 +8,7 @@ ghost use Rattle.b_summaries.specs.Made.{IsMade};
 use crate::texts::tree_of_text;
 use b_ast::FormulaText;
 use b_ast::machine::DefTable;
+use b_definitions::{Disorder, arranged};
 use b_expand::{ParseFault, ParseKind, Unexpanded, Unfit};
 use b_lex::Token;
 use b_summaries::{Definitions, definitions_of, expand};
@@ -57,16 +59,15 @@ pub fn parse_formula_under(
 {
     match tree_of_text(alloc, text, tokens) {
         Ok(tree) => {
-            let answer = expand(alloc, defs, &tree);
+            let answer = expand(alloc, defs, tree);
             answer_of(answer, text.len() as u64)
         }
         Err(fault) => Err(fault),
     }
 }
 
-/// The formula of a text, with the definitions of the table expanded. A table that serves many formulas is best made to
-/// `Definitions` once.
-pub fn parse_formula(
+/// The formula of a text, with the definitions of the table expanded, where each of them uses only those before it.
+pub fn parse_formula_in_order(
     alloc: Global,
     text: &[u8],
     tokens: &[Token],
@@ -78,5 +79,28 @@ pub fn parse_formula(
     match definitions_of(alloc, defs) {
         Ok(made) => parse_formula_under(alloc, text, tokens, &made),
         Err(_) => Err(ParseFault::Memory),
+    }
+}
+
+/// The formula of a text, with the definitions of the table expanded, in whatever order they stand: of two definitions of
+/// one name the first is meant. A table in which a definition uses itself, be it through others, is refused at the
+/// beginning of the text. A table that serves many formulas is best arranged and made to `Definitions` once.
+pub fn parse_formula(
+    alloc: Global,
+    text: &[u8],
+    tokens: &[Token],
+    defs: DefTable,
+) -> Result<FormulaText, ParseFault>
+    requires { AreSpans 0 (length text.now) tokens.now }
+    ensures parses { HasNoCircle defs.defs → spec.ParsesUnder text.now tokens.now defs.defs result }
+    ensures circle { HasCircle defs.defs → spec.TellsCircle result }
+{
+    match arranged(alloc, defs) {
+        Ok(table) => parse_formula_in_order(alloc, text, tokens, &table),
+        Err(Disorder::Circle(_)) => Err(ParseFault::Refused {
+            kind: ParseKind::RecursiveDefinition,
+            at: 0,
+        }),
+        Err(Disorder::Memory) => Err(ParseFault::Memory),
     }
 }

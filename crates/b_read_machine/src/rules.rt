@@ -5,11 +5,11 @@ ghost use Rattle.b_machine_grammar.specs.Words as words;
 ghost use Rattle.b_stretches.specs.Stretches.{pieces, zipped};
 ghost use Rattle.b_read_machine.specs.Rules as spec;
 
-use b_stretches::{Stretch, first, is_word};
 use b_ast::Place;
 use b_grammar::Lexeme;
 use b_machine_grammar::trees::{Clause, MachineTree};
 use b_machine_grammar::words::{Word, begins_clause};
+use b_stretches::{Stretch, first, is_word};
 
 // Whether the first word is this one.
 fn begins_with(s: Stretch<'_>, wanted: Word) -> bool

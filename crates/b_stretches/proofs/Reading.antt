@@ -200,3 +200,36 @@ module _ {A B : Type 0} (by : Cutting) (R : Stands A) (S : Piece → Stands B) (
 
   pub row_both : (x : A) (ys : List B) → R (pieces d.front) x → IsFollowing by S (next_of d.next) ys → IsRow by R S ts (x, ys)
   row_both x ys a b = (rw k.0 at a, rw k.1 at b)
+
+-- ---- less is left
+
+abbrev followed_by : Piece → List Piece → Next
+followed_by s l = Some (s, l)
+
+unless_some : (r p : Piece × List Piece) → unless_last (Some r) ≡ Some p → Some r ≡ Some p
+unless_some r p e = go r.1 refl e
+  where
+    go : (l : List Piece) → r.1 ≡ l → unless_last (Some r) ≡ Some p → Some r ≡ Some p
+    go [] f e = let none = rw f at e in absurd (cc)
+    go (t ∷ ts) f e = let same = rw f at e in ap (followed_by r.0) f ∙ same
+
+unless_same : (q : Next) (p : Piece × List Piece) → unless_last q ≡ Some p → q ≡ Some p
+unless_same None p e = absurd (cc)
+unless_same (Some r) p e = unless_some r p e
+
+less_from : (s : Stretch) (whole : Next) → ((p : Piece × List Piece) → whole ≡ Some p → length p.1 < length (pieces s)) → (q : Option Follow) → next_of q ≡ whole → left (behind q) < left (Some s)
+less_from s whole less None e = omega arith
+less_from s whole less (Some p) e = let l : length (pieces p.2) < length (pieces s) = less (piece_of p, pieces p.2) (sym e) in omega arith
+
+pub left_less : (at : Separator) (s : Stretch) (d : Split) → IsCutAs (cut at (pieces s)) d → left (behind d.next) < left (Some s)
+left_less at s d k = less_from s (cut at (pieces s)).1 (next_less at (pieces s)) d.next k.1
+
+pub left_less_before : (w : Word) (s : Stretch) (d : Split) → IsCutAs (cut_before w (pieces s)) d → left (behind d.next) < left (Some s)
+left_less_before w s d k = less_from s (cut_before w (pieces s)).1 (λ p e. next_less (at.At w) (pieces s) p (unless_same (cut_at w (pieces s)).1 p e)) d.next k.1
+
+pub follow_less : (at : Separator) (p : Piece × List Piece) (d : Split) → IsCutAs (cut at p.1) d → left_behind (next_of d.next) < left_behind (Some p)
+follow_less at p d k = go (next_of d.next) k.1
+  where
+    go : (q : Next) → q ≡ (cut at p.1).1 → left_behind q < suc (length p.1)
+    go None e = omega arith
+    go (Some r) e = let l : length r.1 < length p.1 = next_less at p.1 r (sym e) in omega arith

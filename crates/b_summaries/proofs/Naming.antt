@@ -12,7 +12,8 @@ use Rattle.b_summaries.specs.declared.summary.Told.{Told}
 use Rattle.b_names.specs.declared.places.Index.{Index}
 use Rattle.b_names.specs.declared.places.TableIndex.{TableIndex}
 use Rattle.b_names.specs.Index.{IsIndexOf, IsIndexOfNames, AreOfParameters}
-use Rattle.b_summaries.specs.Standing.{IsIndexed, ArePlaces, place_below, meaning_in, AreTold, used_at}
+use Rattle.b_expand.specs.Standing.{IsIndexed}
+use Rattle.b_summaries.specs.Standing.{ArePlaces, place_below, meaning_in, AreTold, used_at}
 use Rattle.b_summaries.specs.Making.{substituted}
 use Rattle.b_summaries.specs.Summaries.{Meaning, Meanings, Reading, Form, row_of, applied, plain_row, row, first_arguments, later_forms, first_of, with_definition, meaning_of, meanings, told_body, place_of}
 

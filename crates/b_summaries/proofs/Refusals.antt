@@ -1,5 +1,6 @@
 -- The verdict on a tree from what is known of it.
-use Rattle.std.proofs.Common.{◌≡◌, ℕ, rules, Bool, true, false, cond, List, [], length, Option, Some, None, refl, sym, ap, ◌∙◌, subst, arith}
+use borrow.Author.Tests.{ltb-false}
+use Rattle.std.proofs.Common.{◌≡◌, ◌≤◌, ℕ, rules, Bool, true, false, cond, List, [], length, Option, Some, None, refl, sym, ap, ◌∙◌, subst, arith}
 use Rattle.std.specs.Prelude.{nat_lt, take, Result, Ok, Err, IsSome, option_map, option_and_then}
 use Rattle.std.proofs.lemmas.Bool.Decides.{nat_tests}
 use Rattle.b_ast.specs.declared.Sort.{Sort}
@@ -9,6 +10,8 @@ use Rattle.b_ast.specs.declared.FormulaText.{FormulaText}
 use Rattle.b_ast.specs.Sorts.{sort_of}
 use Rattle.b_expand.specs.Places.{node_total, deepest}
 use Rattle.b_expand.specs.Expansion.{expansion}
+use Rattle.b_expand.specs.Filling.{filled}
+use Rattle.b_expand.proofs.Putting.{filled_is_expanded}
 use Rattle.b_expand.specs.Answers.{Answers, judged, sorted_text, text_of}
 use Rattle.b_expand.specs.declared.faults.Unfit.{Unfit}
 use Rattle.b_expand.specs.declared.faults.Unfit.TheVariants.{TooDeep, TooWide}
@@ -62,6 +65,22 @@ module _ (table : List Def) (t : Formula) (facts : Option Facts) (h : facts ≡ 
       go : (o : Option Formula) → Ok s ≡ verdict_of (known o) → IsSome o
       go None k = absurd (cc)
       go (Some w) k = search rules
+
+  within : (s : Sort) (w : Formula) (r : Result Sort Unfit) (b : Bool) → nat_lt 100 (deepest w) ≡ b → Ok s ≡ cond b (Err TooDeep) r → deepest w ≤ 100
+  within s w r true e v = absurd (cc)
+  within s w r false e v = ltb-false 100 (deepest w) e
+
+  sorted_shallow : (s : Sort) (w : Formula) (o : Option Sort) → Ok s ≡ verdict_of (option_map (λ s. facts_from s (size_of w)) o) → deepest w ≤ 100
+  sorted_shallow s w None v = absurd (cc)
+  sorted_shallow s w (Some k) v = within s w (cond (nat_lt 1000000 (counted (node_total w))) (Err TooWide) (Ok k)) (nat_lt 100 (deepest w)) refl v
+
+  -- and it is as deep as a text may be
+  pub is_shallow : (s : Sort) → Ok s ≡ verdict_of facts → deepest (filled table t) ≤ 100
+  is_shallow s e = go (expansion table t) refl (e ∙ ap verdict_of h)
+    where
+      go : (o : Option Formula) → expansion table t ≡ o → Ok s ≡ verdict_of (known o) → deepest (filled table t) ≤ 100
+      go None k v = absurd (cc)
+      go (Some w) k v = subst (λ (z : Formula). deepest z ≤ 100) (sym (filled_is_expanded table t w k)) (sorted_shallow s w (sort_of w) v)
 
 -- the summary of a formula under a table of which each definition is told
 summary_there : (ds table : List Def) → table ≡ ds → (t : Formula) (ps : List (List ℕ)) → ps ≡ [] → (n : ℕ) → n ≡ length ds → summary table ps (meanings table (take n table)) t ≡ summary ds [] (meanings ds ds) t

@@ -9,7 +9,8 @@ use Rattle.b_ast.specs.declared.After.{After}
 use Rattle.std.specs.Option.{option_copied}
 use Rattle.b_names.specs.declared.places.Index.{Index}
 use Rattle.b_names.specs.declared.places.TableIndex.{TableIndex}
-use Rattle.b_names.specs.Index.{IsIndexOfNames, IsTableIndex}
+use Rattle.b_names.specs.Index.{IsIndexOfNames}
+use Rattle.b_expand.specs.Standing as expand
 use Rattle.b_expand.specs.Answers.{text_of}
 use Rattle.b_expand.specs.Expansion.{all_of}
 use Rattle.b_expand.specs.declared.faults.Unfit.{Unfit}
@@ -25,8 +26,8 @@ use Rattle.b_summaries.specs.Summaries as summed
 use Rattle.b_summaries.specs.Summaries.{Meaning, Meanings, Reading, Form, Side}
 
 -- the index answers for every name as a search through the table does, and through the parameters of each definition
-unfoldable pub IsIndexed : List Def → TableIndex → Type 0
-IsIndexed table index = IsTableIndex table index
+abbrev pub IsIndexed : List Def → TableIndex → Type 0
+IsIndexed table index = expand.IsIndexed table index
 
 -- the index is that of a text's parameters, and there is none without parameters
 unfoldable pub ArePlaces : List (List ℕ) → Option Index → Type 0

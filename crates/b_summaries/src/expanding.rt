@@ -1,7 +1,9 @@
 //! Formulas judged by summaries and expanded.
-ghost use Rattle.std.specs.Prelude.{◌≡◌, IfOk, IsSome};
+ghost use Rattle.std.specs.Prelude.{◌≡◌, ◌≤◌, IfOk, IsSome};
 ghost use Rattle.b_expand.specs.Answers as answers;
 ghost use Rattle.b_expand.specs.Expansion.{expansion};
+ghost use Rattle.b_expand.specs.Filling.{filled};
+ghost use Rattle.b_expand.specs.Places.{deepest};
 ghost use Rattle.b_summaries.specs.Sizes.{known};
 ghost use Rattle.b_summaries.specs.Made.{IsMade};
 ghost use Rattle.b_summaries.specs.Standing.{IsIndexed, limited, depth_or_none, verdict_of, text_by, IsRefusal};
@@ -13,7 +15,7 @@ use crate::walk::walk;
 use b_ast::machine::{Def, DefTable};
 use b_ast::{Expr, Formula, FormulaText, Pred, Sort};
 use b_expand::places::refused_at;
-use b_expand::{Unexpanded, Unfit, expanded};
+use b_expand::{Table, Unexpanded, Unfit, expanded};
 use b_names::{TableIndex, table_index};
 use sqlite_items::Items;
 use std::alloc::{AllocError, Global};
@@ -75,19 +77,23 @@ pub fn measured(
 }
 
 /// The text that a formula is once its definitions are expanded, as an expression or a predicate by its sort. A refusal
-/// has a place of the formula. The expanded tree is built only where it is within the limits.
+/// has a place of the formula. The expanded tree is built only where it is within the limits; a formula in which nothing is
+/// expanded is that text itself.
 pub fn expand(
     alloc: Global,
     defs: &Definitions<'_>,
-    formula: &Formula,
+    formula: Formula,
 ) -> Result<FormulaText, Unexpanded>
     requires { IsMade defs.now }
-    ensures { answers.AnswersFormula defs.now.table.now.defs formula.now result }
+    ensures { answers.AnswersFormula defs.now.table.now.defs formula result }
 {
-    match measured(alloc, defs, formula) {
+    match measured(alloc, defs, &formula) {
         Ok(facts) => match verdict(facts) {
-            Ok(sort) => built(alloc, defs.table, formula, sort),
-            Err(why) => Err(Unexpanded::Refused(why, refused_at(formula, &defs.index.definitions))),
+            Ok(sort) => built(alloc, defs, formula, sort),
+            Err(why) => {
+                let at = refused_at(&formula, &defs.index.definitions);
+                Err(Unexpanded::Refused(why, at))
+            }
         },
         Err(_) => Err(Unexpanded::Memory),
     }
@@ -122,14 +128,20 @@ fn within(facts: Facts) -> Result<Sort, Unfit>
 // The expanded tree as a text of a sort.
 fn built(
     alloc: Global,
-    defs: &DefTable,
-    formula: &Formula,
+    defs: &Definitions<'_>,
+    formula: Formula,
     sort: Sort,
 ) -> Result<FormulaText, Unexpanded>
-    requires { IsSome (expansion defs.now.defs formula.now) }
-    ensures { answers.Answers (text_by sort (expansion defs.now.defs formula.now)) result }
+    requires made { IsMade defs.now }
+    requires there { IsSome (expansion defs.now.table.now.defs formula) }
+    requires shallow { deepest (filled defs.now.table.now.defs formula) ≤ 100 }
+    ensures { answers.Answers (text_by sort (expansion defs.now.table.now.defs formula)) result }
 {
-    match expanded(alloc, defs, formula) {
+    let table = Table {
+        defs: defs.table.defs.as_slice(),
+        index: &defs.index,
+    };
+    match expanded(alloc, &table, formula) {
         Ok(tree) => Ok(text_of(tree, sort)),
         Err(_) => Err(Unexpanded::Memory),
     }

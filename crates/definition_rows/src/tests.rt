@@ -1,14 +1,14 @@
 // Texts with definitions, and the canonical texts of what they stand for.
 use b_ast::machine::{Def, DefBody, DefTable, Subst};
 use b_ast::{Expr, Formula, FormulaText, Operator, Place, Pred, Sort};
+use b_definitions::{Disorder, arranged};
 use b_expand::places::refused_at;
 use b_expand::{
-    ParseFault, ParseKind, Unexpanded, Unfit, brackets, deeper_place, expanded, expanded_operator,
-    is_comma,
+    ParseFault, ParseKind, Unexpanded, Unfit, brackets, deeper_place, expanded_operator, is_comma,
 };
 use b_lex::lex;
 use b_names::index_of;
-use b_parse_expr::{parse_formula, parse_formula_under, tree_of_text};
+use b_parse_expr::{parse_formula, parse_formula_in_order, parse_formula_under, tree_of_text};
 use b_print::texts::{print_expr, print_pred};
 use b_summaries::{BRACKET_LIMIT, NODE_LIMIT, definitions_of, expand, measured};
 use sqlite_items::Items;
@@ -33,19 +33,20 @@ fn params(alloc: Global, text: &str) -> Result<Items<Items<u8>>, AllocError> {
     Ok(names)
 }
 
-// The substitution `skip`.
-fn skip() -> Subst {
-    Subst::Skip(Place {
-        machine: true,
-        at: 0,
-        depth: 0,
-    })
-}
+const HERE: Place = Place {
+    machine: true,
+    at: 0,
+    depth: 0,
+};
 
-// A body of a predicate begins with `?`, and `skip` is the substitution.
+// A body of a predicate begins with `?`; `skip` is a substitution, and so is a use `do d`.
 fn body_of(alloc: Global, text: &str) -> Result<DefBody, Fail> {
     if text == "skip" {
-        return Ok(DefBody::Subst(skip()));
+        return Ok(DefBody::Subst(Subst::Skip(HERE)));
+    }
+    if let Some(name) = text.strip_prefix("do ") {
+        let name = Items::from_slice(alloc, name.as_bytes())?;
+        return Ok(DefBody::Subst(Subst::Use(HERE, name, Items::new(alloc))));
     }
     match text.strip_prefix('?') {
         Some(predicate) => Ok(DefBody::Pred(Pred {
@@ -93,6 +94,7 @@ fn written(alloc: Global, answer: Result<FormulaText, ParseFault>) -> Result<Vec
             ParseKind::NotASentence => Ok(b"none".to_vec(alloc)?),
             ParseKind::TooDeep => Ok(b"deep".to_vec(alloc)?),
             ParseKind::TooWide => Ok(b"wide".to_vec(alloc)?),
+            ParseKind::RecursiveDefinition => Ok(b"circle".to_vec(alloc)?),
             _ => Err(Fail::from("another kind")),
         },
         Err(ParseFault::Memory) => Err(Fail::from("no memory")),
@@ -100,9 +102,37 @@ fn written(alloc: Global, answer: Result<FormulaText, ParseFault>) -> Result<Vec
 }
 
 // The canonical text of what a text stands for, or why it is no formula.
-fn shown(alloc: Global, defs: &DefTable, text: &[u8]) -> Result<Vec<u8>, Fail> {
+fn shown(alloc: Global, defs: DefTable, text: &[u8]) -> Result<Vec<u8>, Fail> {
     let tokens = lex(alloc, text)?;
     written(alloc, parse_formula(alloc, text, &tokens, defs))
+}
+
+// Whether a text has that answer under these definitions.
+fn stands_for(alloc: Global, defs: DefTable, text: &str, wanted: &str) -> Result<(), Fail> {
+    let said = shown(alloc, defs, text.as_bytes())?;
+    if said.as_slice() == wanted.as_bytes() {
+        Ok(())
+    } else {
+        Err(Fail::from(text))
+    }
+}
+
+// Whether each line has the answer that stands at its end.
+fn answers(alloc: Global, rows: &str) -> Result<(), Fail> {
+    for line in rows.lines() {
+        let Some((defs, rest)) = line.split_once('@') else {
+            return Err(Fail::from("a line without a text"));
+        };
+        let Some((text, wanted)) = rest.split_once('@') else {
+            return Err(Fail::from("a line without an answer"));
+        };
+        let defs = table(alloc, defs)?;
+        let said = shown(alloc, defs, text.as_bytes())?;
+        if said.as_slice() != wanted.as_bytes() {
+            return Err(Fail::from(line));
+        }
+    }
+    Ok(())
 }
 
 // Each line has definitions, a text, and the canonical text of what it stands for.
@@ -141,20 +171,48 @@ d:x:x$0@d(1)@x$0
 d::skip@1@1
 d::1;;d::skip@d@1";
 
+// The same in an order in which uses stand before what they use. The last definition of a name is never meant, and no circle
+// goes through it.
+const ANY_ORDER: &str = "a::b + 1;;b::2@a@2 + 1
+c::b * b;;b::a + 1;;a::2@c@(2 + 1) * (2 + 1)
+d::?e & 1 = 1;;e::?2 = 2@d@2 = 2 & 1 = 1
+g:p:f(p) + 1;;f:p:p * p@g(3)@3 * 3 + 1
+d::e;;e::1;;e::2@d@1
+e::1;;d::e;;e::2@d@1
+e::1;;e::2;;d::e@d@1
+d::e;;e::f;;f::1;;e::2@d@1
+d::1;;d::e;;e::d@e@1
+d::1;;e::d;;d::e@d + e@1 + 1
+d::1;;d::d@d@1
+d::f;;d::d;;f::1@d@1
+d:e:e + 1;;e::d(2)@e@2 + 1
+d::e;;e::skip@1@1
+d::?#d.(d = 1)@1@1
+d::?#d.(d = 1)@d@none
+d::?e;;e::?#d.(d = 1)@1@1
+d::?e;;e::?#d.(d = 1)@d@none
+d::?!x.(x = 1 => e);;e::?#x.(x = 1)@e@#x.(x = 1)
+s::do d;;d::1@d@1
+d::1;;s::do s;;s::skip@d@circle
+d::d@d@circle
+d::d@1@circle
+d::e;;e::d@1@circle
+d::e;;e::f;;f::d@f@circle
+a::1;;d::e + a;;e::d + a@a@circle
+d:p:d(p)@d(1)@circle
+d::k(d);;k:p:1@1@circle
+d::1 + e;;e:p:{x | x = d & x = p}@1@circle
+s::do t;;t::do s@1@circle
+s::do d;;d::s@1@circle";
+
+#[test]
+fn any_order(rt: HostRuntime) -> Result<(), Fail> {
+    answers(rt.alloc(), ANY_ORDER)
+}
+
 #[test]
 fn rows(rt: HostRuntime) -> Result<(), Fail> {
-    for line in ROWS.lines() {
-        let Some((defs, rest)) = line.split_once('@') else {
-            return Err(Fail::from("a line without a text"));
-        };
-        let Some((text, wanted)) = rest.split_once('@') else {
-            return Err(Fail::from("a line without an answer"));
-        };
-        let defs = table(rt.alloc(), defs)?;
-        let said = shown(rt.alloc(), &defs, text.as_bytes())?;
-        assert!(rt; said.as_slice() == wanted.as_bytes(), "{line}");
-    }
-    Ok(())
+    answers(rt.alloc(), ROWS)
 }
 
 // Each line has definitions and a text that uses them wrongly.
@@ -259,7 +317,7 @@ fn wrong_uses(rt: HostRuntime) -> Result<(), Fail> {
             return Err(Fail::from("a line without a text"));
         };
         let defs = table(rt.alloc(), defs)?;
-        let said = shown(rt.alloc(), &defs, text.as_bytes())?;
+        let said = shown(rt.alloc(), defs, text.as_bytes())?;
         assert!(rt; said.as_slice() == b"none".as_slice(), "{line}");
     }
     Ok(())
@@ -275,7 +333,7 @@ fn wrong_uses_in_arguments(rt: HostRuntime) -> Result<(), Fail> {
         let defs = format!(in rt.alloc(); "{defs};;z:y:1")?;
         let defs = table(rt.alloc(), defs.as_str())?;
         let text = format!(in rt.alloc(); "z({text})")?;
-        let said = shown(rt.alloc(), &defs, text.as_bytes())?;
+        let said = shown(rt.alloc(), defs, text.as_bytes())?;
         assert!(rt; said.as_slice() == b"none".as_slice(), "{line}");
     }
     Ok(())
@@ -309,7 +367,7 @@ fn depths(rt: HostRuntime) -> Result<(), Fail> {
     for (defs, text, count, wanted) in rows {
         let defs = table(rt.alloc(), defs)?;
         let text = in_brackets(rt.alloc(), text, count)?;
-        let said = shown(rt.alloc(), &defs, &text)?;
+        let said = shown(rt.alloc(), defs, &text)?;
         assert!(rt; said.as_slice() == wanted.as_bytes(), "{count}");
     }
     Ok(())
@@ -329,6 +387,32 @@ fn doubling(alloc: Global, first: &str, pattern: &str, count: usize) -> Result<D
         defs.push(definition(alloc, text.as_str())?)?;
     }
     Ok(DefTable { defs })
+}
+
+// The definitions from behind.
+fn reversed(alloc: Global, table: DefTable) -> Result<DefTable, AllocError> {
+    let DefTable { mut defs } = table;
+    let mut all = Items::new(alloc);
+    while let Some(def) = defs.pop() {
+        all.push(def)?;
+    }
+    Ok(DefTable { defs: all })
+}
+
+// Thousands of definitions of which each uses the one behind it: in the table, and in a circle with its last.
+#[test]
+fn long_row_from_behind(rt: HostRuntime) -> Result<(), Fail> {
+    let alloc = rt.alloc();
+    let rows = [
+        ("k:x:1;;d1::1", "d10000", "deep"),
+        ("k:x:1;;d1::1", "k(d10000)", "1"),
+        ("k:x:1;;d1::d10000", "k(d10000)", "circle"),
+    ];
+    for (first, text, wanted) in rows {
+        let defs = doubling(alloc, first, "::#", 10000)?;
+        stands_for(alloc, reversed(alloc, defs)?, text, wanted)?;
+    }
+    Ok(())
 }
 
 // A few doublings are read, and a hundred names for one number; thirty doublings are refused before anything of their size is built, and an argument that vanishes is
@@ -361,7 +445,7 @@ fn doublings(rt: HostRuntime) -> Result<(), Fail> {
     ];
     for ((first, pattern), count, text, wanted) in rows {
         let defs = doubling(rt.alloc(), first, pattern, count)?;
-        let said = shown(rt.alloc(), &defs, text.as_bytes())?;
+        let said = shown(rt.alloc(), defs, text.as_bytes())?;
         assert!(rt; said.as_slice() == wanted.as_bytes(), "{text}");
     }
     Ok(())
@@ -371,7 +455,7 @@ fn doublings(rt: HostRuntime) -> Result<(), Fail> {
 #[test]
 fn long_row_of_names(rt: HostRuntime) -> Result<(), Fail> {
     let defs = doubling(rt.alloc(), "d1::1", "::#", 3000)?;
-    let said = shown(rt.alloc(), &defs, b"d3000")?;
+    let said = shown(rt.alloc(), defs, b"d3000")?;
     assert!(rt; said.as_slice() == b"deep".as_slice());
     Ok(())
 }
@@ -391,15 +475,16 @@ fn arguments_that_vanish(rt: HostRuntime) -> Result<(), Fail> {
     ];
     for ((first, pattern), count, text, wanted) in rows {
         let defs = doubling(rt.alloc(), first, pattern, count)?;
-        let said = shown(rt.alloc(), &defs, text.as_bytes())?;
+        let said = shown(rt.alloc(), defs, text.as_bytes())?;
         assert!(rt; said.as_slice() == wanted.as_bytes(), "{text}");
     }
     Ok(())
 }
 
-// Uses whose arguments all differ: each definition is still summed up once.
+// Uses whose arguments all differ, in the order of use and from behind: each definition is still summed up once.
 #[test]
 fn growing_arguments(rt: HostRuntime) -> Result<(), Fail> {
+    let alloc = rt.alloc();
     let four = ":p,q:#(p+p,q+q) + #(p+p+1,q+q) + #(p+p,q+q+1) + #(p+p+1,q+q+1)";
     let two = ":p,q:#(p+q,p) + #(q,p+1)";
     let rows = [
@@ -412,11 +497,16 @@ fn growing_arguments(rt: HostRuntime) -> Result<(), Fail> {
         (two, 30, "k(d30(1,2))", "1"),
     ];
     for (pattern, count, text, wanted) in rows {
-        let defs = doubling(rt.alloc(), "k:x:1;;d1:p,q:p + q", pattern, count)?;
-        let said = shown(rt.alloc(), &defs, text.as_bytes())?;
-        assert!(rt; said.as_slice() == wanted.as_bytes(), "{text}");
+        let defs = growing(alloc, pattern, count)?;
+        stands_for(alloc, defs, text, wanted)?;
+        let behind = reversed(alloc, growing(alloc, pattern, count)?)?;
+        stands_for(alloc, behind, text, wanted)?;
     }
     Ok(())
+}
+
+fn growing(alloc: Global, pattern: &str, count: usize) -> Result<DefTable, Fail> {
+    doubling(alloc, "k:x:1;;d1:p,q:p + q", pattern, count)
 }
 
 // Definitions, and a product that uses them.
@@ -458,16 +548,55 @@ fn made_once(rt: HostRuntime) -> Result<(), Fail> {
     Ok(())
 }
 
-fn put_in(alloc: Global) -> Result<Vec<u8>, Fail> {
-    let (defs, formula) = product(alloc)?;
-    let formula = expanded(alloc, &defs, &formula)?;
-    Ok(print_expr(alloc, &Expr { formula })?)
+// Read in its order, a body knows the definitions before it alone.
+#[test]
+fn in_order(rt: HostRuntime) -> Result<(), Fail> {
+    let rows = [("a::b + 1;;b::2", "b + 1"), ("b::2;;a::b + 1", "2 + 1")];
+    for (defs, wanted) in rows {
+        let defs = table(rt.alloc(), defs)?;
+        let tokens = lex(rt.alloc(), b"a")?;
+        let answer = parse_formula_in_order(rt.alloc(), b"a", &tokens, &defs);
+        let said = written(rt.alloc(), answer)?;
+        assert!(rt; said.as_slice() == wanted.as_bytes(), "{wanted}");
+    }
+    Ok(())
+}
+
+// The names of an arranged table, or the place of a definition in a circle.
+fn names_arranged(alloc: Global, text: &str) -> Result<Vec<u8>, Fail> {
+    let mut names = Vec::new(alloc);
+    match arranged(alloc, table(alloc, text)?) {
+        Ok(table) => {
+            for def in table.defs.as_slice() {
+                names.extend_from_slice(def.name.as_slice())?;
+            }
+            Ok(names)
+        }
+        Err(Disorder::Circle(at)) => Ok(format!(in alloc; "{at}")?.into_bytes()),
+        Err(Disorder::Memory) => Err(Fail::from("no memory")),
+    }
+}
+
+// Definitions come behind those that they use, and those of a name that has an earlier one come last.
+#[test]
+fn arranged_names(rt: HostRuntime) -> Result<(), Fail> {
+    let rows = [
+        ("a::b;;b::1", "ba"),
+        ("a::b + c;;b::c;;c::1", "cba"),
+        ("d::1;;d::e;;e::d", "ded"),
+        ("a::1;;d::d", "1"),
+    ];
+    for (defs, wanted) in rows {
+        let said = names_arranged(rt.alloc(), defs)?;
+        assert!(rt; said.as_slice() == wanted.as_bytes(), "{defs}");
+    }
+    Ok(())
 }
 
 fn put_in_within_limits(alloc: Global) -> Result<Vec<u8>, Fail> {
     let (defs, formula) = product(alloc)?;
     let made = definitions_of(alloc, &defs)?;
-    match expand(alloc, &made, &formula) {
+    match expand(alloc, &made, formula) {
         Ok(FormulaText::Expr(e)) => Ok(print_expr(alloc, &e)?),
         _ => Err(Fail::from("no expression")),
     }
@@ -477,7 +606,6 @@ fn put_in_within_limits(alloc: Global) -> Result<Vec<u8>, Fail> {
 #[test]
 fn expands(rt: HostRuntime) -> Result<(), Fail> {
     let wanted = "(1 + 2) * 1".as_bytes();
-    assert!(rt; put_in(rt.alloc())?.as_slice() == wanted);
     assert!(rt; put_in_within_limits(rt.alloc())?.as_slice() == wanted);
     Ok(())
 }
@@ -513,7 +641,7 @@ fn is_unknown(alloc: Global) -> Result<bool, Fail> {
 fn refused_there(alloc: Global) -> Result<Option<u64>, Fail> {
     let (defs, formula) = wrong_sum(alloc)?;
     let made = definitions_of(alloc, &defs)?;
-    match expand(alloc, &made, &formula) {
+    match expand(alloc, &made, formula) {
         Err(Unexpanded::Refused(Unfit::NotASentence, at)) => Ok(Some(at)),
         _ => Ok(None),
     }

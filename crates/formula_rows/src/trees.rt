@@ -208,7 +208,7 @@ fn sort_of_text(alloc: Global, text: &[u8]) -> Result<&'static str, Fail> {
     let defs = DefTable {
         defs: Items::new(alloc),
     };
-    match parse_formula(alloc, text, &tokens, &defs) {
+    match parse_formula(alloc, text, &tokens, defs) {
         Ok(FormulaText::Expr(_)) => Ok("expression"),
         Ok(FormulaText::Pred(_)) => Ok("predicate"),
         Err(ParseFault::Refused { kind, at: _ }) => match kind {

@@ -53,6 +53,14 @@ number_by : (n : ℕ) (b : Bool) → IsSome (if b then Some (numbered_state n) e
 number_by n true h = sym (number_of_numbered n)
 number_by n false h = absurd (cc)
 
+-- a state of a table is packed to bytes that stand for it
+pub packs : (s : TableState) → table_unpack (byte_of s ∷ []) ≡ Some (numbered_state (byte_of s))
+packs state.Root = refl
+packs state.A = refl
+packs state.B = refl
+packs state.C = refl
+packs state.D = refl
+
 -- the byte of a packed state is its number
 pub number_at : (bs : List ℕ) → IsPacked table_unpack bs → get_or bs 0 0 ≡ number_of (state_of table_unpack bs)
 number_at [] h = absurd (cc)

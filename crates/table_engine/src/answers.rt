@@ -1,6 +1,6 @@
 ghost use Rattle.engine_face.specs.Packing.{IsPacked, state_of};
 ghost use Rattle.std.specs.Option.{option_copied};
-ghost use Rattle.std.specs.Prelude.{◌≡◌, ◌∷◌, [], IfOk, map};
+ghost use Rattle.std.specs.Prelude.{◌≡◌, ◌∷◌, [], IfOk, Some, map};
 ghost use Rattle.table_engine.specs.TableLaws.{SmallNumber};
 ghost use Rattle.table_engine.specs.Tables as spec;
 
@@ -28,8 +28,10 @@ fn byte_of(state: TableState) -> u8
 }
 
 /// A state of a table, packed.
+#[tactic(auto, using(crate::specs::TableLaws::packs))]
 pub fn packed_state(alloc: Global, state: TableState) -> Result<Packed, AllocError>
-    ensures { IfOk result (λ p. p ≡ spec.byte_of state ∷ []) }
+    ensures bytes { IfOk result (λ p. p ≡ spec.byte_of state ∷ []) }
+    ensures stands { IfOk result (λ p. spec.table_unpack p ≡ Some (spec.numbered_state (spec.byte_of state))) }
 {
     let byte = byte_of(state);
     Packed::of_bytes(alloc, Items::from_slice(alloc, &[byte])?)

@@ -5,4 +5,4 @@ use Rattle.b_expand.proofs.names.are_commas.Given as goal
 
 -- what is left decides
 abbrev pub invariant-loop-link : goal.invariant-loop-link
-invariant-loop-link l = list_all (λ k. k.comma) (map (side_in l.names) (drop l.link-index l.links)) ≡ list_all (λ k. k.comma) (map (side_in l.names) l.links)
+invariant-loop-link l = list_all (λ k. k.comma) (map (side_in l.text) (drop l.link-index l.links)) ≡ list_all (λ k. k.comma) (map (side_in l.text) l.links)

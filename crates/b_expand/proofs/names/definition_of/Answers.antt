@@ -1,6 +1,8 @@
-use Rattle.b_expand.proofs.Indexing.{known_place}
+use Rattle.b_expand.proofs.Indexing.{definitions_known, first_known}
 use Rattle.b_expand.proofs.names.definition_of.Goals as goal
 
 -- the index answers as a search does
 pub returns-clause-value : goal.returns-clause-value
-returns-clause-value c = known_place c.args.names.now.before.now c.args.names.now.index.now c.requires.known c.args.name.now c.first.result c.below.result c.first.ensures.answer c.below.ensures.value
+returns-clause-value c =
+    first_known c.args.text.now.table.defs.now c.args.text.now.here.place c.args.name.now c.first.result c.below.result
+    (c.first.ensures.place c.args.text.now.table.defs.now (definitions_known c.args.text.now.table.defs.now c.args.text.now.table.index.now c.requires)) c.below.ensures.value

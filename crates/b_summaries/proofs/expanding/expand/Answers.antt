@@ -1,12 +1,16 @@
-use Rattle.b_summaries.proofs.Refusals.{answers_built, answers_refused, is_there}
+use Rattle.b_summaries.proofs.Refusals.{answers_built, answers_refused, is_there, is_shallow}
 use Rattle.b_summaries.proofs.expanding.expand.Goals as goal
 
 pub returns-in-Ok-verdict : goal.returns-in-Ok-verdict
-returns-in-Ok-verdict c = answers_built c.args.defs.now.table.now.defs c.args.formula.now c.in-Ok.facts c.in-Ok.ensures c.in-Ok-verdict.sort c.in-Ok-verdict.ensures c.built.result c.built.ensures
+returns-in-Ok-verdict c = answers_built c.args.defs.now.table.now.defs c.args.formula c.in-Ok.facts c.in-Ok.ensures c.in-Ok-verdict.sort c.in-Ok-verdict.ensures c.built.result c.built.ensures
 
 pub returns-in-Err-verdict : goal.returns-in-Err-verdict
-returns-in-Err-verdict c = answers_refused c.args.defs.now.table.now.defs c.args.formula.now c.in-Ok.facts c.in-Ok.ensures c.in-Err-verdict.why c.in-Err-verdict.ensures
+returns-in-Err-verdict c = answers_refused c.args.defs.now.table.now.defs c.args.formula c.in-Ok.facts c.in-Ok.ensures c.in-Err-verdict.why c.in-Err-verdict.ensures
 
 -- where there is a verdict, there is an expanded tree
-pub built-requires : goal.built-requires
-built-requires c = is_there c.args.defs.now.table.now.defs c.args.formula.now c.in-Ok.facts c.in-Ok.ensures c.in-Ok-verdict.sort c.in-Ok-verdict.ensures
+pub built-requires-clause-there : goal.built-requires-clause-there
+built-requires-clause-there c = is_there c.args.defs.now.table.now.defs c.args.formula c.in-Ok.facts c.in-Ok.ensures c.in-Ok-verdict.sort c.in-Ok-verdict.ensures
+
+-- which is as deep as a text may be
+pub built-requires-clause-shallow : goal.built-requires-clause-shallow
+built-requires-clause-shallow c = is_shallow c.args.defs.now.table.now.defs c.args.formula c.in-Ok.facts c.in-Ok.ensures c.in-Ok-verdict.sort c.in-Ok-verdict.ensures

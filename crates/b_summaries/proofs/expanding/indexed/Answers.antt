@@ -1,4 +1,4 @@
-use Rattle.b_summaries.specs.Standing.{IsIndexed}
+use Rattle.b_expand.specs.Standing.{IsIndexed}
 use Rattle.b_summaries.proofs.expanding.indexed.Goals as goal
 
 -- an index of a table is one for a text of it

@@ -1,7 +1,0 @@
-use Rattle.std.proofs.Common.{◌≡◌, map, take}
-use Rattle.b_expand.specs.Places as spec
-use Rattle.b_expand.proofs.copies.deeper_bounds.Given as goal
-
--- the copies of those so far
-abbrev pub invariant-loop-name : goal.invariant-loop-name
-invariant-loop-name l = l.copies ≡ map (spec.deeper_bound l.round) (take l.name-index l.names)

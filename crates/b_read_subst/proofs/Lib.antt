@@ -1,0 +1,3 @@
+pub mod Answering
+pub mod Lets
+pub mod Laws

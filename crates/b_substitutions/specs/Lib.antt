@@ -1,0 +1,5 @@
+pub mod Expansion
+pub mod Sizes
+pub mod Summaries
+pub mod Standing
+pub mod Made

@@ -1,0 +1,10 @@
+use Rattle.std.proofs.Common.{◌≡◌, ◌<◌, length, get_or, arith}
+use Rattle.session_text.proofs.Lengths.{on_err, long_step}
+use Rattle.session_text.proofs.replies.add_trace_steps.Goals as goal
+
+pub returns-in_err-add_numbered-clause-long : goal.returns-in_err-add_numbered-clause-long
+returns-in_err-add_numbered-clause-long c =
+    let small : c.loop-step.step-index < length c.args.steps.now = omega arith in
+    let is : c.get.result.now ≡ get_or c.args.steps.now c.loop-step.step-index c.get.result.now = cc in
+    on_err c.from_residual.result
+    (long_step c.args.face.now c.args.steps.now c.loop-step.step-index c.loop-step.k c.get.result.now c.loop-step.out c.args.out.now _ small is c.loop-step.invariant.text c.in_err-add_numbered.ensures.long)

@@ -1,0 +1,18 @@
+-- What a writer of replies answers.
+use Rattle.std.specs.Prelude.{◌≡◌, ℕ, ◌<◌, List, length, Result, Ok, Err}
+use Rattle.std.specs.declared.alloc.AllocError.{AllocError}
+use Rattle.b_values.specs.declared.types.Face.{Face}
+use Rattle.session_words.specs.declared.replies.Reply.{Reply}
+use Rattle.session_words.specs.Replies.{reply_text}
+
+-- the code has numbers in place of states
+abbrev pub as_it_is : ℕ → ℕ
+as_it_is number = number
+
+abbrev pub text_of_reply : Face → Reply ℕ → List ℕ
+text_of_reply face reply = reply_text face as_it_is reply
+
+-- the text, or want of memory where it has more than 64 bytes
+abbrev pub IsWritten : List ℕ → Result (List ℕ) AllocError → Type 0
+IsWritten text (Ok written) = written ≡ text
+IsWritten text (Err none) = 64 < length text

@@ -1,0 +1,4 @@
+pub mod Layers
+pub mod Ranges
+pub mod Rows
+pub mod Answering
