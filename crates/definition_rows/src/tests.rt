@@ -393,8 +393,10 @@ fn doubling(alloc: Global, first: &str, pattern: &str, count: usize) -> Result<D
 fn reversed(alloc: Global, table: DefTable) -> Result<DefTable, AllocError> {
     let DefTable { mut defs } = table;
     let mut all = Items::new(alloc);
-    while let Some(def) = defs.pop() {
-        all.push(def)?;
+    for _ in 0..defs.len() {
+        if let Some(def) = defs.pop() {
+            all.push(def)?;
+        }
     }
     Ok(DefTable { defs: all })
 }
