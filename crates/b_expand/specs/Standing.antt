@@ -12,6 +12,9 @@ use Rattle.b_names.specs.Index.{IsTableIndex}
 use Rattle.b_expand.specs.declared.standing.Table.{Table}
 use Rattle.b_expand.specs.declared.standing.Arguments.{Arguments}
 use Rattle.b_expand.specs.declared.standing.Frame.{Frame}
+use Rattle.b_expand.specs.declared.standing.Callers.{Callers, fold-Callers}
+use Rattle.b_expand.specs.declared.standing.Callers.TheOpen.{Callers-F, Caller-F}
+use Rattle.b_expand.specs.declared.standing.Caller.{Caller, fold-Caller}
 use Rattle.b_expand.specs.declared.standing.Standing.{Standing}
 use Rattle.b_expand.specs.Places.{brackets, deeper_place, moved, moved_link, moved_after, raised_place}
 use Rattle.b_expand.specs.Expansion.{Scope}
@@ -24,6 +27,22 @@ IsIndexed ds index = IsTableIndex ds index
 
 abbrev pub IsReady : Table → Type 0
 IsReady t = IsIndexed t.defs.now t.index.now
+
+-- ---- the texts that a text is used in, the nearest first
+
+abbrev pub callers_step : Callers-F (List Frame) (List Frame) → List Frame
+callers_step Callers-F.Outside = []
+callers_step (Callers-F.Within c) = c.now
+
+abbrev pub caller_step : Caller-F (List Frame) (List Frame) → List Frame
+caller_step c = c.text ∷ c.callers
+
+abbrev pub frames_of : Callers → List Frame
+frames_of = fold-Callers (List Frame) (List Frame) callers_step caller_step
+
+-- a text, and those that it is used in
+abbrev pub frames_from : Caller → List Frame
+frames_from = fold-Caller (List Frame) (List Frame) callers_step caller_step
 
 -- ---- what names mean
 
@@ -87,13 +106,13 @@ steps_at ds f [] = []
 steps_at ds f (g ∷ gs) = map (λ a. a.steps (params_at ds g.place) (steps_at ds g gs)) (parts_in (means_at ds g.place) f.arguments)
 
 abbrev pub trees_in_scope : Standing → List Formula
-trees_in_scope t = trees_at t.table.defs.now t.here t.callers.now
+trees_in_scope t = trees_at t.table.defs.now t.here (frames_of t.callers)
 
 abbrev pub scope_of : Standing → Scope
 scope_of t = record { round = t.here.round; params = params_in t; trees = trees_in_scope t }
 
 abbrev pub argument_steps_in : Standing → List ℕ
-argument_steps_in t = steps_at t.table.defs.now t.here t.callers.now
+argument_steps_in t = steps_at t.table.defs.now t.here (frames_of t.callers)
 
 -- ---- trees
 
