@@ -7,7 +7,7 @@ use Rattle.b_stretches.specs.declared.Stretch.{Stretch}
 use Rattle.b_stretches.specs.declared.Split.{Split}
 use Rattle.b_stretches.specs.Stretches.{pieces, next_of, behind, IsCutAs, Answers, IsHalvedAs}
 use Rattle.b_stretches.proofs.Reading.{fails, made_fails, behind_is, parted_both, IsPartlyRead, list_go, list_fails, IsPartlyFollowed, follow_go, follow_fails}
-use Rattle.b_read_subst.specs.Making.{IsPair, IsMadeOf, IsPushed}
+use Rattle.b_stretches.specs.Making.{IsPair, IsMadeOf, IsPushed}
 
 pub pair_on : {A B : Type 0} (R : A → Type 0) (T : B → Type 0) (Q : A × B → Type 0) → ((x : A) (y : B) → R x → T y → Q (x, y)) → ((z : A × B) → Q z → R z.0) → ((z : A × B) → Q z → T z.1)
     → (a : Result A Unread) (b : Result B Unread) (r : Result (A × B) Unread) → IsPair a b r → Answers R a → Answers T b → Answers Q r
