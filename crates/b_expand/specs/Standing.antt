@@ -12,9 +12,8 @@ use Rattle.b_names.specs.Index.{IsTableIndex}
 use Rattle.b_expand.specs.declared.standing.Table.{Table}
 use Rattle.b_expand.specs.declared.standing.Arguments.{Arguments}
 use Rattle.b_expand.specs.declared.standing.Frame.{Frame}
-use Rattle.b_expand.specs.declared.standing.Callers.{Callers, fold-Callers}
-use Rattle.b_expand.specs.declared.standing.Callers.TheOpen.{Callers-F, Caller-F}
-use Rattle.b_expand.specs.declared.standing.Caller.{Caller, fold-Caller}
+use Rattle.b_expand.specs.declared.standing.Callers.{Callers, Outside, Within'}
+use Rattle.b_expand.specs.declared.standing.Caller.{Caller}
 use Rattle.b_expand.specs.declared.standing.Standing.{Standing}
 use Rattle.b_expand.specs.Places.{brackets, deeper_place, moved, moved_link, moved_after, raised_place}
 use Rattle.b_expand.specs.Expansion.{Scope}
@@ -30,19 +29,13 @@ IsReady t = IsIndexed t.defs.now t.index.now
 
 -- ---- the texts that a text is used in, the nearest first
 
-abbrev pub callers_step : Callers-F (List Frame) (List Frame) → List Frame
-callers_step Callers-F.Outside = []
-callers_step (Callers-F.Within c) = c.now
-
-abbrev pub caller_step : Caller-F (List Frame) (List Frame) → List Frame
-caller_step c = c.text ∷ c.callers
-
 abbrev pub frames_of : Callers → List Frame
-frames_of = fold-Callers (List Frame) (List Frame) callers_step caller_step
+frames_of Outside = []
+frames_of (Within' p text callers) = text ∷ frames_of callers
 
 -- a text, and those that it is used in
 abbrev pub frames_from : Caller → List Frame
-frames_from = fold-Caller (List Frame) (List Frame) callers_step caller_step
+frames_from c = c.text ∷ frames_of c.callers
 
 -- ---- what names mean
 

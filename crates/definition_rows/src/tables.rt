@@ -108,24 +108,24 @@ pub fn table(alloc: Global, text: &str) -> Result<DefTable, Fail> {
     Ok(DefTable { defs })
 }
 
-// With the definition of a number by a pattern, in which `#` is the name of the one before.
+// With the definition behind that of a number by a pattern, in which `#` is the name of the one before.
 fn with_next(
     alloc: Global,
     defs: Items<Def>,
     pattern: &str,
     number: usize,
 ) -> Result<Items<Def>, Fail> {
-    let before = number.saturating_sub(1);
-    let name = format!(in alloc; "d{before}")?;
+    let next = number.saturating_add(1);
+    let name = format!(in alloc; "d{number}")?;
     let rest = pattern.replace(alloc, "#", name.as_str())?;
-    let text = format!(in alloc; "d{number}{rest}")?;
+    let text = format!(in alloc; "d{next}{rest}")?;
     with_definition(alloc, defs, text.as_str())
 }
 
 /// Definitions, and behind them d2 and so on up to so many.
 pub fn growing(alloc: Global, first: &str, pattern: &str, count: usize) -> Result<DefTable, Fail> {
     let mut defs = definitions(alloc, first)?;
-    for number in 2..=count {
+    for number in 1..count {
         defs = with_next(alloc, defs, pattern, number)?;
     }
     Ok(DefTable { defs })
