@@ -6,7 +6,7 @@ use Rattle.b_ast.specs.declared.Place.{Place}
 use Rattle.b_ast.specs.declared.Bound.{Bound}
 use Rattle.b_ast.specs.declared.Operator.{Operator}
 use Rattle.b_ast.specs.declared.Operator.TheVariants as operator
-unfoldable pub use Rattle.b_ast.specs.Priorities.{priority}
+pub use Rattle.b_ast.specs.Priorities.{priority}
 use Rattle.b_ast.specs.declared.Function.{Function}
 use Rattle.b_ast.specs.declared.Function.TheVariants.{Prj1, Prj2, Iterate}
 use Rattle.b_ast.specs.declared.Formula.{Formula}

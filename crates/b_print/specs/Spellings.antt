@@ -2,7 +2,7 @@
 use Rattle.std.specs.Prelude.{ℕ, List, codes}
 use Rattle.b_ast.specs.declared.Operator.{Operator}
 use Rattle.b_ast.specs.declared.Operator.TheVariants as operator
-unfoldable pub use Rattle.b_ast.specs.Priorities.{priority}
+pub use Rattle.b_ast.specs.Priorities.{priority}
 use Rattle.b_ast.specs.declared.Function.{Function}
 use Rattle.b_ast.specs.declared.Function.TheVariants as function
 use Rattle.b_ast.specs.declared.Constant.{Constant}
