@@ -98,7 +98,7 @@ pub fill_use-returns-in-Some : goal.fill_use-returns-in-Some
 fill_use-returns-in-Some t c =
     ok_along c.fill_body.result _ (raise c.args.text.now (used_in c.args.text.now c.args.i c.args.depth c.args.arguments))
     (ap (raise c.args.text.now)
-    (use_tree c.args.text.now.table.defs.now c.args.text.now.here _ (frames_of c.args.text.now.callers) (frames_from c.caller_of-caller.result) c.args.i c.in-Some.def.now c.in-Some.ensures c.requires.known c.caller_of-caller.ensures
+    (use_tree c.args.text.now.table.defs.now c.args.text.now.here (record { place = c.args.i; round = c.round_of_use.result; arguments = c.args.arguments }) (frames_of c.args.text.now.callers) (frames_from c.caller_of-caller.result) c.args.i c.in-Some.def.now c.in-Some.ensures c.requires.known c.caller_of-caller.ensures
     (round_in c.args.text.now c.args.depth) c.round_of_use.result c.round_of_use.ensures)) c.fill_body.ensures
 
 pub fill_use-returns-in-None : goal.fill_use-returns-in-None
