@@ -1,7 +1,7 @@
 use Rattle.std.proofs.Common.{rules, ◌≡◌, ap, ◌∙◌, cond, Some, bytes_eq}
 use Rattle.type_demands.specs.Scopes.{meaning_in}
 use Rattle.type_demands.proofs.Frames.{put_at}
-use Rattle.type_demands.proofs.scopes.put.Goals as goal
+use Rattle.type_demands.proofs.scopes.put_meaning.Goals as goal
 
 -- the key has the name's bytes
 pub returns : goal.returns
