@@ -36,8 +36,8 @@ fn round_of_use(text: &Standing<'_>, depth: u64) -> u64
     brackets(brackets(text.here.round, depth), 1)
 }
 
-// A text, as one that a use stands in.
-fn caller_of<'a>(text: &Standing<'a>) -> Caller<'a>
+/// A text, as one that a use stands in.
+pub fn caller_of<'a>(text: &Standing<'a>) -> Caller<'a>
     ensures { frames_from result ≡ text.now.here ∷ frames_of text.now.callers }
 {
     Caller {
