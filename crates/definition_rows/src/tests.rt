@@ -1,4 +1,6 @@
 // Texts with definitions, and the canonical texts of what they stand for.
+ghost use Rattle.b_summaries.specs.Made.{IsMade};
+
 use crate::rows::{
     ANY_ORDER, ARRANGED, DEPTHS, GROWING, IN_ORDER, MEASURED, REFUSED, ROWS, WRONG_USES,
 };
@@ -363,7 +365,9 @@ fn places_of_refusals(rt: HostRuntime) -> Result<(), Fail> {
     Ok(())
 }
 
-fn said_under(alloc: Global, made: &Definitions<'_>, text: &str) -> Result<Vec<u8>, Fail> {
+fn said_under(alloc: Global, made: &Definitions<'_>, text: &str) -> Result<Vec<u8>, Fail>
+    requires { IsMade made.now }
+{
     let tokens = lex(alloc, text.as_bytes())?;
     let answer = parse_formula_under(alloc, text.as_bytes(), &tokens, made);
     written(alloc, answer)
