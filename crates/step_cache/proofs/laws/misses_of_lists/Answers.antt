@@ -1,4 +1,4 @@
-use Rattle.std.proofs.Common.{ℕ, ◌∙◌, ◌-◌, ◌^◌, arith, ap, min, List, [], zero-add}
+use Rattle.std.proofs.Common.{ℕ, ◌∙◌, ◌-◌, ◌^◌, arith, ap, min, [], zero-add}
 use Rattle.engine_face.specs.Keys.{same_bytes, bytes_same}
 use Rattle.engine_face.specs.Misses.{misses_of_uses}
 use Rattle.engine_face.specs.StoreLaws.{misses_of_rule}
