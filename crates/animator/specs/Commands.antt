@@ -140,7 +140,7 @@ abbrev pub steps_in : StepList State → List (Step State)
 steps_in lists = flat_map (λ list. list.steps) lists.lists
 
 -- the step that has this number, from 1
-abbrev pub step_of : List (Step State) → ℕ → Option (Step State)
+abbrev pub step_of : {D : Type 0} → List (Step D) → ℕ → Option (Step D)
 step_of steps zero = None
 step_of steps (suc k) = slice_get steps k
 

@@ -6,11 +6,11 @@ ghost use Rattle.b_summaries.specs.Standing.{IsReady, meaning_at, means_in, read
 
 use crate::lists::{before, pushed};
 use crate::making::{around, formed, leaf, parameter, start, start_row, with_part, with_place};
-use crate::sorts::{argument_sort, body_sort, call_sort, chain_sort, operand_sort};
 use crate::summary::{Parts, Summary};
 use crate::texts::{
     Text, application, called, may_bind_all, meaning_of, names_depth, place_of, several, use_of,
 };
+use b_ast::sorts::{argument_sort, body_sort, call_sort, chain_sort, operand_sort};
 use b_ast::{After, Formula, Link, Place, Sort};
 use b_expand::expanded_operator;
 use sqlite_items::Items;
