@@ -1,5 +1,5 @@
 -- A session quits at `quit` alone, and memory as an answer is always told.
-use Rattle.std.proofs.Common.{◌≡◌, ◌∙◌, ap, refl, ℕ, zero, suc, Bool, true, false, ◌||◌, nat_lt, List, [], ◌∷◌, length, drop, Option, Some, None, Result, Ok, Err, slice_get, if◌then◌else◌}
+use Rattle.std.proofs.Common.{◌≡◌, ◌∙◌, sym, ap, refl, ℕ, zero, suc, Bool, true, false, ◌||◌, nat_lt, List, [], ◌∷◌, length, drop, Option, Some, None, Result, Ok, Err, slice_get, if◌then◌else◌}
 use Rattle.std.specs.Prelude.{is_some}
 use Rattle.std.specs.List.{list_any}
 use Rattle.b_values.specs.declared.types.Face.{Face}
@@ -26,6 +26,8 @@ use Rattle.trace_ops.specs.Traces.{back, forward, jump, is_full}
 use Rattle.trace_ops.specs.declared.faults.MoveFault.{MoveFault}
 use Rattle.animator.specs.Commands.{step_of, operation_of}
 use Rattle.animator.specs.History.{quits_by}
+use Rattle.session_core.specs.declared.core_of.At.{At}
+use Rattle.session_core.specs.declared.core_of.At.TheVariants.{Replying, Quitting}
 use Rattle.session_core.specs.declared.core_of.Turn.{Turn}
 use Rattle.session_core.specs.declared.held.KeptTrace.{KeptTrace}
 use Rattle.session_core.specs.declared.held.Held.{Held}
@@ -37,7 +39,12 @@ use Rattle.session_core.specs.declared.stages.Next.TheVariants.{Goes, Ends, Refu
 use Rattle.session_core.specs.declared.stages.Answer.{Answer}
 use Rattle.session_core.specs.declared.stages.Answer.TheVariants as given
 use Rattle.session_core.specs.Moving.{packed_steps, any_step, arriving, going, moving, using_kept, kept_under, evaluating, subscribing, searching, doing, started, started_by, is_too_long, line_next, adding, taking, searched, valued, checked, telling, named_step, taken_on, takes_no_memory, spared_by, line_spared}
-use Rattle.session_core.specs.Settling.{Settled, quits_at, quits_next, quits_line}
+use Rattle.session_core.specs.Settling.{Settled, quits_at, quits_next, quits_line, is_asking}
+
+not_asking : (at a : At) → at ≡ a → is_asking a ≡ false → is_asking at ≡ true → ⊥
+not_asking at a is none asking =
+    let wrong : false ≡ true = sym none ∙ ap is_asking (sym is) ∙ asking in
+    cc
 
 quits_if : (b : Bool) (x y : Next) → quits_next x ≡ false → quits_next y ≡ false → quits_next (if b then x else y) ≡ false
 quits_if true x y p q = p
@@ -141,6 +148,15 @@ module _ (m : Meaning) (unpack : Unpacking) (root : Numbered) (held : Held) wher
     settled_quits Silent settled = ap quits_at settled.1
     settled_quits (Moves n number) settled = ap quits_at settled.1
     settled_quits Quits settled = ap quits_at settled.1
+
+    -- within a command nothing that is held has changed
+    pub settled_unchanged : (next : Next) → Settled root held face next new turn → is_asking turn.at ≡ true → new ≡ held
+    settled_unchanged (Goes stage) settled asking = settled.0
+    settled_unchanged (Ends change reply) settled asking = absurd (not_asking turn.at Replying settled.1 refl asking)
+    settled_unchanged (Refuses why) settled asking = absurd (not_asking turn.at Replying settled.1 refl asking)
+    settled_unchanged Silent settled asking = absurd (not_asking turn.at Replying settled.1 refl asking)
+    settled_unchanged (Moves n number) settled asking = absurd (not_asking turn.at Replying settled.1 refl asking)
+    settled_unchanged Quits settled asking = absurd (not_asking turn.at Quitting settled.1 refl asking)
 
     pub line_settled : (line : List ℕ) → Settled root held face (line_next m unpack root held line) new turn → quits_at turn.at ≡ quits_line line
     line_settled line settled = settled_quits (line_next m unpack root held line) settled ∙ line_quits line

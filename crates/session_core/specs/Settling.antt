@@ -69,3 +69,8 @@ quits_next next = false
 -- the line is `quit`
 abbrev pub quits_line : List ℕ → Bool
 quits_line line = if is_too_long line then false else quits_by (command_of line)
+
+-- within a command
+abbrev pub is_asking : At → Bool
+is_asking (Asking stage) = true
+is_asking at = false

@@ -1,4 +1,4 @@
-use Rattle.std.proofs.Common.{rules, ◌≡◌, sym, subst}
+use Rattle.std.proofs.Common.{rules, ◌≡◌, refl, sym, subst}
 use Rattle.session_core.specs.declared.core_of.At.{At}
 use Rattle.session_core.specs.declared.core_of.At.TheVariants.{Idle, Asking, Replying, Quitting, Marked}
 use Rattle.session_core.specs.declared.stages.Answer.TheVariants.{Replied}
@@ -37,3 +37,18 @@ returns-in-Idle-clause-memory g c =
     let is : c.args.self.now.at ≡ Idle = search rules in
     let no : ⊥ = subst (λ (a : At). IsAsked (g.E.Engine.meaning c.args.engine.now) (g.E.Engine.unpack c.args.engine.now) c.args.self.now.held a c.args.answer) is c.requires.asked in
     absurd no
+
+pub returns-in-Asking-clause-unchanged : goal.returns-in-Asking-clause-unchanged
+returns-in-Asking-clause-unchanged g c = c.go_on.ensures.unchanged
+
+pub returns-in-Idle-clause-unchanged : goal.returns-in-Idle-clause-unchanged
+returns-in-Idle-clause-unchanged g c = λ asking. refl
+
+pub returns-in-Replying-clause-unchanged : goal.returns-in-Replying-clause-unchanged
+returns-in-Replying-clause-unchanged g c = λ asking. refl
+
+pub returns-in-Quitting-clause-unchanged : goal.returns-in-Quitting-clause-unchanged
+returns-in-Quitting-clause-unchanged g c = λ asking. refl
+
+pub returns-in-Marked-clause-unchanged : goal.returns-in-Marked-clause-unchanged
+returns-in-Marked-clause-unchanged g c = λ asking. refl
