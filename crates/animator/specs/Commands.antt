@@ -9,7 +9,7 @@ use Rattle.b_values.specs.declared.types.Face.{Face}
 use Rattle.b_values.specs.declared.types.OpId.{OpId}
 use Rattle.b_values.specs.declared.types.OpId.TheVariants as op
 use Rattle.b_values.specs.declared.values.State.{State}
-use Rattle.b_values.specs.declared.values.State.TheVariants.{Root}
+use Rattle.b_values.specs.Values.{same_state}
 use Rattle.b_values.specs.declared.values.Value.{Value, out-Value}
 use Rattle.b_values.specs.declared.values.Value.TheOpen.{Value-F}
 use Rattle.engine_face.specs.Meaning.{Meaning, invariant_key}
@@ -140,7 +140,7 @@ abbrev pub steps_in : StepList State → List (Step State)
 steps_in lists = flat_map (λ list. list.steps) lists.lists
 
 -- the step that has this number, from 1
-abbrev pub step_of : List (Step State) → ℕ → Option (Step State)
+abbrev pub step_of : {D : Type 0} → List (Step D) → ℕ → Option (Step D)
 step_of steps zero = None
 step_of steps (suc k) = slice_get steps k
 
@@ -195,18 +195,17 @@ abbrev pub use_of : State → Session → Option Kept → Plan
 use_of origin session None = refused session refusal.NoKept
 use_of origin session (Some kept) = gone origin session kept.trace
 
--- a state with its values; origin has none
-abbrev pub values_of : State → Option (List Value)
-values_of Root = None
-values_of state = Some (values_in state)
+-- a state with its values; the state before the first step has none
+abbrev pub values_of : State → State → Option (List Value)
+values_of origin state = if same_state origin state then None else Some (values_in state)
 
-abbrev pub state_shown : State → Reply State
-state_shown state = reply.State state (values_of state)
+abbrev pub state_shown : State → State → Reply State
+state_shown origin state = reply.State state (values_of origin state)
 
 -- the state of a number is told where this session was shown it
-abbrev pub shown_of : Session → Option State → Plan
-shown_of session None = refused session refusal.NotShown
-shown_of session (Some state) = if was_shown session state then ended session (state_shown state) else refused session refusal.NotShown
+abbrev pub shown_of : State → Session → Option State → Plan
+shown_of origin session None = refused session refusal.NotShown
+shown_of origin session (Some state) = if was_shown session state then ended session (state_shown origin state) else refused session refusal.NotShown
 
 -- ---- saved traces
 
@@ -306,8 +305,8 @@ module _ (s : Setting) where
   plan session command.Forward = moved s.meaning.root session (forward session.trace)
   plan session (command.Jump n) = moved s.meaning.root session (jump n session.trace)
   plan session command.Trace = ended session (reply.Trace session.trace.position session.trace.steps)
-  plan session command.State = ended session (state_shown (state_in s.meaning.root session.trace))
-  plan session (command.Show n) = Number n (shown_of session)
+  plan session command.State = ended session (state_shown s.meaning.root (state_in s.meaning.root session.trace))
+  plan session (command.Show n) = Number n (shown_of s.meaning.root session)
   plan session (command.Eval text) = with_key session (s.meaning.read_formula scope.State text) (λ key. ValueIn (state_in s.meaning.root session.trace) key (evaluated session))
   plan session (command.Sub text) = with_key session (s.meaning.read_formula scope.State text) (subscribing s.meaning.root session)
   plan session (command.Unsub n) = if list_any (has_number n) session.subs.list then ended (with_subs session (unsubscribed n session.subs)) reply.Done else refused session refusal.NoSub

@@ -1,5 +1,5 @@
 -- A session value of a private animator: what a session has, and nothing of how the host keeps it.
-use Rattle.std.specs.Prelude.{ℕ, Bool, not, List, [], ◌∷◌, ◌++◌, length, filter, Option, Some, None}
+use Rattle.std.specs.Prelude.{ℕ, Bool, List, [], ◌∷◌, ◌++◌, length, Option, Some, None, if◌then◌else◌}
 use Rattle.std.specs.List.{list_any, find}
 use Rattle.std.specs.Str.{bytes_eq}
 use Rattle.b_values.specs.declared.values.State.{State}
@@ -53,11 +53,16 @@ with_subs session subs = record { trace = session.trace; kept = session.kept; su
 abbrev pub kept_of : Session → List ℕ → Option Kept
 kept_of session name = find (λ kept. bytes_eq name kept.name) session.kept
 
--- the trace under the name, in place of what was kept under it
+-- a trace takes the place of the one that was kept under its name, or stands behind all
+abbrev pub with_kept : Kept → List Kept → List Kept
+with_kept new [] = new ∷ []
+with_kept new (kept ∷ others) = if bytes_eq new.name kept.name then new ∷ others else kept ∷ with_kept new others
+
+-- the session once its trace is kept under the name
 abbrev pub keeping : Session → List ℕ → Session
 keeping session name = record {
   trace = session.trace;
-  kept = record { name = name; trace = session.trace } ∷ filter (λ kept. not (bytes_eq name kept.name)) session.kept;
+  kept = with_kept (record { name = name; trace = session.trace }) session.kept;
   subs = session.subs;
   shown = session.shown;
 }

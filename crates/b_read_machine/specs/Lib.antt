@@ -1,1 +1,3 @@
+pub mod Machines
 pub mod Rules
+pub mod Texts

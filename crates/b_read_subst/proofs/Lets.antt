@@ -13,7 +13,8 @@ use Rattle.b_stretches.specs.declared.Stretch.{Stretch}
 use Rattle.b_stretches.specs.Stretches.{pieces, Answers, IsHalvedAs}
 use Rattle.b_stretches.proofs.Reading.{fails, behind_is, parted_none, parted_both}
 use Rattle.b_read_parts.specs.Parts.{AreFixed}
-use Rattle.b_read_subst.specs.Making.{IsPair, IsMadeOf, fixing}
+use Rattle.b_stretches.specs.Making.{IsPair, IsMadeOf}
+use Rattle.b_read_subst.specs.Making.{fixing}
 
 module _ (P : Stands Subst) (p : Place) (ts : List Piece) where
   -- equations and what follows IN

@@ -10,14 +10,15 @@ mod making;
 
 use crate::making::{
     any_of, block_of, branch_of, case_branch_of, case_of, chained, choice_of, guarded_of, if_of,
-    let_of, pair, push_read, select_of, some_of, step_of,
+    let_of, select_of, some_of, step_of,
 };
 use b_ast::machine::{Branch, CaseBranch, Guard, Step, Subst};
 use b_ast::{Formula, Place};
 use b_machine_grammar::words::{Separator, Word};
 use b_read_parts::{fixed, names, simple_subst, written, written_list};
 use b_stretches::{
-    Follow, Stretch, Unread, behind, cut, cut_at, enclosed, ended, first, halves, is_word, stuck,
+    Follow, Stretch, Unread, behind, cut, cut_at, enclosed, ended, first, halves, is_word, pair,
+    push_read, stuck,
 };
 use sqlite_items::{Boxed, Items};
 use std::alloc::Global;

@@ -1,6 +1,7 @@
 //! What is made of answers, without a recursion.
 ghost use Rattle.std.specs.Prelude.{◌≡◌, Ok};
 ghost use Rattle.b_machine_grammar.specs.Grammar as grammar;
+ghost use Rattle.b_stretches.specs.Making.{IsMadeOf};
 ghost use Rattle.b_read_subst.specs.Making as spec;
 
 use b_ast::machine::{Branch, CaseBranch, Guard, Joint, Step, Subst};
@@ -10,32 +11,6 @@ use b_machine_grammar::words::Word;
 use b_stretches::Unread;
 use sqlite_items::{Boxed, Items};
 use std::alloc::Global;
-
-/// Both answers, or the first that is none.
-pub fn pair<A: Drop, B: Drop>(a: Result<A, Unread>, b: Result<B, Unread>) -> Result<(A, B), Unread>
-    ensures { spec.IsPair a b result }
-{
-    match a {
-        Ok(x) => match b {
-            Ok(y) => Ok((x, y)),
-            Err(e) => Err(e),
-        },
-        Err(e) => Err(e),
-    }
-}
-
-/// An answer behind those that are there.
-pub fn push_read<T: Drop>(all: &mut Items<T>, one: Result<T, Unread>) -> Result<(), Unread>
-    ensures { spec.IsPushed all.old one all.new result }
-{
-    match one {
-        Ok(item) => match all.push(item) {
-            Ok(()) => Ok(()),
-            Err(_) => Err(Unread::Memory),
-        },
-        Err(e) => Err(e),
-    }
-}
 
 /// `||` where this word is that, else `;`
 pub fn joint_of(word: Word) -> Joint
@@ -49,7 +24,7 @@ pub fn joint_of(word: Word) -> Joint
 
 /// A step of a chain.
 pub fn step_of(word: Word, lexeme: &Lexeme, body: Result<Subst, Unread>) -> Result<Step, Unread>
-    ensures { spec.IsMadeOf (grammar.step (word, lexeme.now)) body result }
+    ensures { IsMadeOf (grammar.step (word, lexeme.now)) body result }
 {
     match body {
         Ok(body) => Ok(Step {
@@ -71,7 +46,7 @@ fn boxed(alloc: Global, tree: Subst) -> Result<Boxed<Subst>, Unread>
 }
 
 fn chain_of(alloc: Global, first: Subst, steps: Items<Step>) -> Result<Subst, Unread>
-    ensures { spec.IsMadeOf grammar.chain (Ok (first, steps)) result }
+    ensures { IsMadeOf grammar.chain (Ok (first, steps)) result }
 {
     if steps.is_empty() {
         return Ok(first);
@@ -84,7 +59,7 @@ fn chain_of(alloc: Global, first: Subst, steps: Items<Step>) -> Result<Subst, Un
 
 /// One substitution stands for itself, several are one node.
 pub fn chained(alloc: Global, parts: Result<(Subst, Items<Step>), Unread>) -> Result<Subst, Unread>
-    ensures { spec.IsMadeOf grammar.chain parts result }
+    ensures { IsMadeOf grammar.chain parts result }
 {
     match parts {
         Ok((first, steps)) => chain_of(alloc, first, steps),
@@ -94,7 +69,7 @@ pub fn chained(alloc: Global, parts: Result<(Subst, Items<Step>), Unread>) -> Re
 
 /// `BEGIN S END`
 pub fn block_of(alloc: Global, at: Place, body: Result<Subst, Unread>) -> Result<Subst, Unread>
-    ensures { spec.IsMadeOf (spec.block at) body result }
+    ensures { IsMadeOf (spec.block at) body result }
 {
     match body {
         Ok(body) => match boxed(alloc, body) {
@@ -112,7 +87,7 @@ pub fn guarded_of(
     guard: Guard,
     parts: Result<(Formula, Subst), Unread>,
 ) -> Result<Subst, Unread>
-    ensures { spec.IsMadeOf (spec.guarded at guard) parts result }
+    ensures { IsMadeOf (spec.guarded at guard) parts result }
 {
     match parts {
         Ok((condition, body)) => match boxed(alloc, body) {
@@ -125,7 +100,7 @@ pub fn guarded_of(
 
 /// A branch of IF or SELECT.
 pub fn branch_of(parts: Result<(Formula, Subst), Unread>) -> Result<Branch, Unread>
-    ensures { spec.IsMadeOf grammar.branch parts result }
+    ensures { IsMadeOf grammar.branch parts result }
 {
     match parts {
         Ok((guard, body)) => Ok(Branch { guard, body }),
@@ -135,7 +110,7 @@ pub fn branch_of(parts: Result<(Formula, Subst), Unread>) -> Result<Branch, Unre
 
 /// A branch of CASE.
 pub fn case_branch_of(parts: Result<(Items<Formula>, Subst), Unread>) -> Result<CaseBranch, Unread>
-    ensures { spec.IsMadeOf grammar.case_branch parts result }
+    ensures { IsMadeOf grammar.case_branch parts result }
 {
     match parts {
         Ok((labels, body)) => Ok(CaseBranch { labels, body }),
@@ -145,7 +120,7 @@ pub fn case_branch_of(parts: Result<(Items<Formula>, Subst), Unread>) -> Result<
 
 /// What stands behind ELSE.
 pub fn some_of(alloc: Global, body: Result<Subst, Unread>) -> Result<Option<Boxed<Subst>>, Unread>
-    ensures { spec.IsMadeOf spec.some body result }
+    ensures { IsMadeOf spec.some body result }
 {
     match body {
         Ok(body) => match boxed(alloc, body) {
@@ -161,7 +136,7 @@ pub fn if_of(
     at: Place,
     parts: Result<(Items<Branch>, Option<Boxed<Subst>>), Unread>,
 ) -> Result<Subst, Unread>
-    ensures { spec.IsMadeOf (spec.conditional at) parts result }
+    ensures { IsMadeOf (spec.conditional at) parts result }
 {
     match parts {
         Ok((some, other)) => Ok(Subst::If(at, some, other)),
@@ -174,7 +149,7 @@ pub fn select_of(
     at: Place,
     parts: Result<(Items<Branch>, Option<Boxed<Subst>>), Unread>,
 ) -> Result<Subst, Unread>
-    ensures { spec.IsMadeOf (spec.select at) parts result }
+    ensures { IsMadeOf (spec.select at) parts result }
 {
     match parts {
         Ok((some, other)) => Ok(Subst::Select(at, some, other)),
@@ -184,7 +159,7 @@ pub fn select_of(
 
 /// `CHOICE S OR T END`
 pub fn choice_of(at: Place, parts: Result<Items<Subst>, Unread>) -> Result<Subst, Unread>
-    ensures { spec.IsMadeOf (spec.choice at) parts result }
+    ensures { IsMadeOf (spec.choice at) parts result }
 {
     match parts {
         Ok(some) => Ok(Subst::Choice(at, some)),
@@ -197,7 +172,7 @@ pub fn case_of(
     at: Place,
     parts: Result<(Formula, (Items<CaseBranch>, Option<Boxed<Subst>>)), Unread>,
 ) -> Result<Subst, Unread>
-    ensures { spec.IsMadeOf (spec.casing at) parts result }
+    ensures { IsMadeOf (spec.casing at) parts result }
 {
     match parts {
         Ok((value, (some, other))) => Ok(Subst::Case(at, value, some, other)),
@@ -211,7 +186,7 @@ pub fn any_of(
     at: Place,
     parts: Result<(Items<Bound>, (Formula, Subst)), Unread>,
 ) -> Result<Subst, Unread>
-    ensures { spec.IsMadeOf (spec.any at) parts result }
+    ensures { IsMadeOf (spec.any at) parts result }
 {
     match parts {
         Ok((bound, (condition, body))) => match boxed(alloc, body) {
@@ -228,7 +203,7 @@ pub fn let_of(
     at: Place,
     parts: Result<((Items<Bound>, Items<Formula>), Subst), Unread>,
 ) -> Result<Subst, Unread>
-    ensures { spec.IsMadeOf (spec.fixing at) parts result }
+    ensures { IsMadeOf (spec.fixing at) parts result }
 {
     match parts {
         Ok(((bound, values), body)) => match boxed(alloc, body) {

@@ -6,6 +6,9 @@ ghost use Rattle.b_machine_grammar.specs.Cuts.{depth_behind};
 ghost use Rattle.b_stretches.specs.declared.Unread.TheVariants.{Memory};
 ghost use Rattle.b_stretches.specs.Stretches as spec;
 
+mod answers;
+
+pub use answers::{pair, push_read};
 use b_grammar::Lexeme;
 use b_machine_grammar::words::{Separator, Word, closes, opens, separates};
 use std::alloc::AllocError;

@@ -5,3 +5,5 @@ pub mod Telling
 pub mod PartSizes
 pub mod Naming
 pub mod Uses
+pub mod Putting
+pub mod Filling

@@ -66,7 +66,7 @@ module _ {S M : Type 0} (look : S → List ℕ → Option M) (f : S → Def → 
   known_meaning s (d ∷ ds) (suc k) zero h = refl
   known_meaning s (d ∷ ds) (suc k) (suc i) h = known_meaning (more s d) ds k i (omega arith)
 
-  means_known : (s : S) → ((x : List ℕ) → look s x ≡ None) → (table : List Def) (k : ℕ) (x : List ℕ) (o : Option ℕ) → o ≡ position (λ d. bytes_eq x d.name) (take k table) → IfSome o (λ i. i < length (take k table)) → option_and_then (meant_from s table) o ≡ look (fold more s (take k table)) x
+  pub means_known : (s : S) → ((x : List ℕ) → look s x ≡ None) → (table : List Def) (k : ℕ) (x : List ℕ) (o : Option ℕ) → o ≡ position (λ d. bytes_eq x d.name) (take k table) → IfSome o (λ i. i < length (take k table)) → option_and_then (meant_from s table) o ≡ look (fold more s (take k table)) x
   means_known s empty table k x None e h = means_at_place s empty (take k table) x None e
   means_known s empty table k x (Some i) e h = sym (known_meaning s table k i h) ∙ means_at_place s empty (take k table) x (Some i) e
 
@@ -107,7 +107,7 @@ place_within ds x = found_within (first_place ds x) (length ds) (nat_lt (first_p
 known_taken : (table : List Def) (k : ℕ) (x : List ℕ) (o : Option ℕ) → o ≡ position (λ d. bytes_eq x d.name) table → (r : Option ℕ) → r ≡ place_below k o → r ≡ position (λ d. bytes_eq x d.name) (take k table)
 known_taken table k x o e r h = h ∙ (ap (place_below k) e ∙ place_taken table k x)
 
-known_within : (table : List Def) (k : ℕ) (x : List ℕ) (r : Option ℕ) → r ≡ position (λ d. bytes_eq x d.name) (take k table) → IfSome r (λ i. i < length (take k table))
+pub known_within : (table : List Def) (k : ℕ) (x : List ℕ) (r : Option ℕ) → r ≡ position (λ d. bytes_eq x d.name) (take k table) → IfSome r (λ i. i < length (take k table))
 known_within table k x r h = subst (λ (o : Option ℕ). IfSome o (λ i. i < length (take k table))) (sym h) (place_within (take k table) x)
 
 -- a place that is found among the first is below their number

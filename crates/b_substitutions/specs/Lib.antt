@@ -3,3 +3,6 @@ pub mod Sizes
 pub mod Summaries
 pub mod Standing
 pub mod Made
+pub mod Filling
+pub mod Filled
+pub mod Limits

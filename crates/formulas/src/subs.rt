@@ -72,6 +72,20 @@ impl Subs {
         self.list.as_slice()
     }
 
+    /// Whether a subscription has this number.
+    pub fn has(&self, number: u64) -> bool
+        ensures { result ≡ list_any (has_number number) self.now.list }
+    {
+        is_taken(&self.list, number)
+    }
+
+    /// The number that the next subscription gets.
+    pub fn next(&self) -> u64
+        ensures { result ≡ self.now.next }
+    {
+        self.next
+    }
+
     /// Adds a formula under the next number: the number.
     pub fn add(&mut self, key: FormulaKey) -> Result<u64, SubFault>
         ensures { Subscribes self.old key self.new result }

@@ -23,6 +23,8 @@ pub fn pack(alloc: Global, face: &Face, s: &State) -> Result<Packed, AllocError>
 {
     let mut out: Vec<u8> = Vec::new(alloc);
     put_state(&mut out, face, s)?;
+    // A list that grew has room for up to twice its bytes, and a packed state is kept long.
+    out.shrink_to_fit();
     Packed::of_bytes(alloc, Items::from_vec(out))
 }
 

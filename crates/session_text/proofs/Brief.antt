@@ -15,6 +15,7 @@ use Rattle.session_words.specs.declared.replies.Reply.{Reply}
 use Rattle.session_words.specs.declared.replies.Reply.TheVariants.{Silent, Done, Info, Lists, Added, Moved, Trace, State, Value as Valued, Subscribed, Subscriptions, Invariant, Saved, Migrated, Replayed, VisbItems, Walked, Refused}
 use Rattle.session_words.specs.Texts.{line, kind_text, text_name, place_text, fault_text, fault_code, refusal_text}
 use Rattle.session_text.specs.Writing.{text_of_reply}
+use Rattle.session_words.specs.declared.replies.Numbered.{Numbered}
 use Rattle.session_text.specs.Brief.{HasWords, IsAlone, IsBrief}
 
 short_number : (n : ℕ) → n < 2 ^ 64 → length (decimal n) ≤ 20
@@ -88,15 +89,23 @@ short_line begin text some most few more =
     let all : length (line (begin ++ text)) ≡ length (begin ++ text) + 1 = length-append (begin ++ text) (10 ∷ []) in
     omega arith
 
-short_alone : (face : Face) (state : ℕ) (subs : List SubValue) → IsAlone state subs → length (text_of_reply face (Moved state subs)) ≤ 64
+short_alone : (face : Face) (state : Numbered) (subs : List SubValue) → IsAlone state subs → length (text_of_reply face (Moved state subs)) ≤ 64
 short_alone face state [] small =
-    let shown : length (line (codes "state " ++ decimal state)) ≤ 6 + 20 + 1 = short_line (codes "state ") (decimal state) 6 20 (lit≤ tt) (short_number state small) in
-    let none : length (line (codes "state " ++ decimal state) ++ []) ≡ length (line (codes "state " ++ decimal state)) + 0 = length-append (line (codes "state " ++ decimal state)) [] in
-    let all : length (line (codes "state " ++ decimal state) ++ [] ++ line (codes "ok")) ≡ length (line (codes "state " ++ decimal state) ++ []) + 3 = length-append (line (codes "state " ++ decimal state) ++ []) (line (codes "ok")) in
+    let shown : length (line (codes "state " ++ decimal state.number)) ≤ 6 + 20 + 1 = short_line (codes "state ") (decimal state.number) 6 20 (lit≤ tt) (short_number state.number small) in
+    let none : length (line (codes "state " ++ decimal state.number) ++ []) ≡ length (line (codes "state " ++ decimal state.number)) + 0 = length-append (line (codes "state " ++ decimal state.number)) [] in
+    let all : length (line (codes "state " ++ decimal state.number) ++ [] ++ line (codes "ok")) ≡ length (line (codes "state " ++ decimal state.number) ++ []) + 3 = length-append (line (codes "state " ++ decimal state.number) ++ []) (line (codes "ok")) in
     omega arith
 short_alone face state (sub ∷ subs) small = absurd small
 
-pub brief_fits : (face : Face) (reply : Reply ℕ) → IsBrief reply → length (text_of_reply face reply) ≤ 64
+-- a state alone doesn't pass 64 bytes behind nothing
+pub moved_told : (n : ℕ) (out : List ℕ) → n < 2 ^ 64 → out ≡ [] → 64 < length out + length (line (codes "state " ++ decimal n) ++ line (codes "ok")) → ⊥
+moved_told n out small empty long =
+    let none : length out ≡ 0 = ap length empty in
+    let shown : length (line (codes "state " ++ decimal n)) ≤ 6 + 20 + 1 = short_line (codes "state ") (decimal n) 6 20 (lit≤ tt) (short_number n small) in
+    let all : length (line (codes "state " ++ decimal n) ++ line (codes "ok")) ≡ length (line (codes "state " ++ decimal n)) + 3 = length-append (line (codes "state " ++ decimal n)) (line (codes "ok")) in
+    omega arith
+
+pub brief_fits : (face : Face) (reply : Reply Numbered) → IsBrief reply → length (text_of_reply face reply) ≤ 64
 brief_fits face Silent brief = lit≤ tt
 brief_fits face Done brief = lit≤ tt
 brief_fits face (Moved state subs) brief = short_alone face state subs brief
@@ -119,7 +128,7 @@ brief_fits face (VisbItems a) brief = absurd brief
 brief_fits face (Walked a b) brief = absurd brief
 
 -- so such a reply isn't too long for its value
-pub brief_told : (face : Face) (reply : Reply ℕ) (out : List ℕ) → out ≡ [] → 64 < length out + length (text_of_reply face reply) → IsBrief reply → ⊥
+pub brief_told : (face : Face) (reply : Reply Numbered) (out : List ℕ) → out ≡ [] → 64 < length out + length (text_of_reply face reply) → IsBrief reply → ⊥
 brief_told face reply out empty long brief =
     let none : length out ≡ 0 = ap length empty in
     let most : length (text_of_reply face reply) ≤ 64 = brief_fits face reply brief in

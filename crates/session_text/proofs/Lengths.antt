@@ -11,7 +11,8 @@ use Rattle.engine_face.specs.declared.answers.Step.{Step}
 use Rattle.engine_face.specs.declared.answers.OpList.{OpList}
 use Rattle.session_words.specs.Texts.{line, end_text}
 use Rattle.session_words.specs.Replies.{op_name, values_text, results_text, params_text, named_values, step_line, step_lines, list_lines}
-use Rattle.session_text.specs.Writing.{as_it_is}
+use Rattle.session_words.specs.declared.replies.Numbered.{Numbered}
+use Rattle.session_text.specs.Writing.{its_number}
 
 pub on_err : {T E : Type 0} {P : Type 0} (r : Result T E) → P → OnErr r P
 on_err (Ok x) p = tt
@@ -67,32 +68,32 @@ long_later f xs i x first out new text all small is later added e h =
     ∙ ap (λ b. out ++ cond b (commas (map f (drop i xs))) (comma_each (map f (drop i xs)))) (sym later) ∙ e) h
 
 -- steps with their numbers
-pub long_step : (face : Face) (xs : List (Step ℕ)) (i k : ℕ) (x : Step ℕ) (out text all : List ℕ) → i < length xs → x ≡ get_or xs i x
-    → out ++ step_lines face as_it_is k (drop i xs) ≡ text ++ all → 64 < length out + length (decimal k ++ codes " " ++ step_line face as_it_is x) → 64 < length text + length all
+pub long_step : (face : Face) (xs : List (Step Numbered)) (i k : ℕ) (x : Step Numbered) (out text all : List ℕ) → i < length xs → x ≡ get_or xs i x
+    → out ++ step_lines face its_number k (drop i xs) ≡ text ++ all → 64 < length out + length (decimal k ++ codes " " ++ step_line face its_number x) → 64 < length text + length all
 long_step face xs i k x out text all small is e h =
-    long_rest out (decimal k ++ codes " " ++ step_line face as_it_is x) (step_lines face as_it_is (k + 1) (drop (suc i) xs)) text all
-    (ap (λ l. out ++ step_lines face as_it_is k l) (sym (opened xs i x small is)) ∙ e) h
+    long_rest out (decimal k ++ codes " " ++ step_line face its_number x) (step_lines face its_number (k + 1) (drop (suc i) xs)) text all
+    (ap (λ l. out ++ step_lines face its_number k l) (sym (opened xs i x small is)) ∙ e) h
 
 -- lists of steps: at the steps of a list, and at its end
-at_list : (face : Face) (xs : List (OpList ℕ)) (i k : ℕ) (x : OpList ℕ) (steps : List (Step ℕ)) (out text all : List ℕ) → i < length xs → x ≡ get_or xs i x → steps ≡ x.steps
-    → out ++ list_lines face as_it_is k (drop i xs) ≡ text ++ all
-    → out ++ (step_lines face as_it_is k steps ++ (line (op_name face x.op ++ end_text x.end) ++ list_lines face as_it_is (k + length x.steps) (drop (suc i) xs))) ≡ text ++ all
+at_list : (face : Face) (xs : List (OpList Numbered)) (i k : ℕ) (x : OpList Numbered) (steps : List (Step Numbered)) (out text all : List ℕ) → i < length xs → x ≡ get_or xs i x → steps ≡ x.steps
+    → out ++ list_lines face its_number k (drop i xs) ≡ text ++ all
+    → out ++ (step_lines face its_number k steps ++ (line (op_name face x.op ++ end_text x.end) ++ list_lines face its_number (k + length x.steps) (drop (suc i) xs))) ≡ text ++ all
 at_list face xs i k x steps out text all small is same e =
-    ap (λ t. out ++ t) (sym (append_assoc (step_lines face as_it_is k steps) (line (op_name face x.op ++ end_text x.end)) (list_lines face as_it_is (k + length x.steps) (drop (suc i) xs))))
-    ∙ ap (λ s. out ++ (step_lines face as_it_is k s ++ line (op_name face x.op ++ end_text x.end) ++ list_lines face as_it_is (k + length x.steps) (drop (suc i) xs))) same
-    ∙ ap (λ l. out ++ list_lines face as_it_is k l) (sym (opened xs i x small is)) ∙ e
+    ap (λ t. out ++ t) (sym (append_assoc (step_lines face its_number k steps) (line (op_name face x.op ++ end_text x.end)) (list_lines face its_number (k + length x.steps) (drop (suc i) xs))))
+    ∙ ap (λ s. out ++ (step_lines face its_number k s ++ line (op_name face x.op ++ end_text x.end) ++ list_lines face its_number (k + length x.steps) (drop (suc i) xs))) same
+    ∙ ap (λ l. out ++ list_lines face its_number k l) (sym (opened xs i x small is)) ∙ e
 
-pub long_list : (face : Face) (xs : List (OpList ℕ)) (i k : ℕ) (x : OpList ℕ) (steps : List (Step ℕ)) (out text all : List ℕ) → i < length xs → x ≡ get_or xs i x → steps ≡ x.steps
-    → out ++ list_lines face as_it_is k (drop i xs) ≡ text ++ all → 64 < length out + length (step_lines face as_it_is k steps) → 64 < length text + length all
+pub long_list : (face : Face) (xs : List (OpList Numbered)) (i k : ℕ) (x : OpList Numbered) (steps : List (Step Numbered)) (out text all : List ℕ) → i < length xs → x ≡ get_or xs i x → steps ≡ x.steps
+    → out ++ list_lines face its_number k (drop i xs) ≡ text ++ all → 64 < length out + length (step_lines face its_number k steps) → 64 < length text + length all
 long_list face xs i k x steps out text all small is same e h =
-    long_rest out (step_lines face as_it_is k steps) (line (op_name face x.op ++ end_text x.end) ++ list_lines face as_it_is (k + length x.steps) (drop (suc i) xs)) text all
+    long_rest out (step_lines face its_number k steps) (line (op_name face x.op ++ end_text x.end) ++ list_lines face its_number (k + length x.steps) (drop (suc i) xs)) text all
     (at_list face xs i k x steps out text all small is same e) h
 
-pub long_list_end : (face : Face) (xs : List (OpList ℕ)) (i k : ℕ) (x : OpList ℕ) (steps : List (Step ℕ)) (out new text all : List ℕ) → i < length xs → x ≡ get_or xs i x → steps ≡ x.steps
-    → new ≡ out ++ step_lines face as_it_is k steps
-    → out ++ list_lines face as_it_is k (drop i xs) ≡ text ++ all → 64 < length new + length (line (op_name face x.op ++ end_text x.end)) → 64 < length text + length all
+pub long_list_end : (face : Face) (xs : List (OpList Numbered)) (i k : ℕ) (x : OpList Numbered) (steps : List (Step Numbered)) (out new text all : List ℕ) → i < length xs → x ≡ get_or xs i x → steps ≡ x.steps
+    → new ≡ out ++ step_lines face its_number k steps
+    → out ++ list_lines face its_number k (drop i xs) ≡ text ++ all → 64 < length new + length (line (op_name face x.op ++ end_text x.end)) → 64 < length text + length all
 long_list_end face xs i k x steps out new text all small is same added e h =
-    long_second out new (step_lines face as_it_is k steps) (line (op_name face x.op ++ end_text x.end)) (list_lines face as_it_is (k + length x.steps) (drop (suc i) xs)) text all added
+    long_second out new (step_lines face its_number k steps) (line (op_name face x.op ++ end_text x.end)) (list_lines face its_number (k + length x.steps) (drop (suc i) xs)) text all added
     (at_list face xs i k x steps out text all small is same e) h
 
 -- the first name with its value, and those behind them

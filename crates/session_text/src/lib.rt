@@ -9,5 +9,5 @@ mod text;
 mod values;
 
 pub use commands::{CommandFault, read_command};
-pub use replies::write_reply;
+pub use replies::{write_moved, write_reply};
 pub use text::ReplyText;

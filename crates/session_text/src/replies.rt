@@ -4,7 +4,7 @@ ghost use Rattle.std.specs.Fmt.{decimal};
 ghost use Rattle.b_values.specs.Texts.{text_of};
 ghost use Rattle.session_words.specs.Texts.{line, refusal_text, bounded_mark, end_text};
 ghost use Rattle.session_words.specs.Replies.{op_name, named_values, sub_line, sub_text, item_line, position_line, state_line, step_line, step_lines, list_lines, state_lines, sub_lines, trace_lines, reply_lines, truth_text};
-ghost use Rattle.session_text.specs.Writing.{text_of_reply, IsWritten, as_it_is};
+ghost use Rattle.session_text.specs.Writing.{text_of_reply, IsWritten, its_number};
 ghost use Rattle.session_text.specs.Brief.{IsBrief};
 
 use crate::parts::{
@@ -15,7 +15,7 @@ use crate::values::{add_truth, add_value};
 use b_values::{Face, NameFace, Value};
 use engine_face::{OpList, Step};
 use itoa::Buffer;
-use session_words::{ItemValue, Refusal, Reply, SubText, SubValue};
+use session_words::{ItemValue, Numbered, Refusal, Reply, SubText, SubValue};
 use shared::Shared;
 use std::alloc::{AllocError, Global};
 
@@ -41,14 +41,14 @@ fn add_position(out: &mut ReplyText, position: u64, len: u64) -> Result<(), Allo
 }
 
 // `RESULTS <-- NAME(PARAMS) : ID`.
-fn add_step(out: &mut ReplyText, face: &Face, step: &Step<u64>) -> Result<(), AllocError>
-    ensures added { OnOk result (out.new ≡ out.old ++ step_line face.now as_it_is step.now) }
-    ensures long { OnErr result (64 < length out.old + length (step_line face.now as_it_is step.now)) }
+fn add_step(out: &mut ReplyText, face: &Face, step: &Step<Numbered>) -> Result<(), AllocError>
+    ensures added { OnOk result (out.new ≡ out.old ++ step_line face.now its_number step.now) }
+    ensures long { OnErr result (64 < length out.old + length (step_line face.now its_number step.now)) }
 {
     add_results(out, face, step.results.as_slice())?;
     add_op(out, face, step.op)?;
     add_params(out, face, step.params.as_slice())?;
-    add_counted(out, b" : ", step.dest)
+    add_counted(out, b" : ", step.dest.number)
 }
 
 fn add_wide(out: &mut ReplyText, n: u128) -> Result<(), AllocError>
@@ -64,10 +64,10 @@ fn add_numbered(
     out: &mut ReplyText,
     face: &Face,
     k: u128,
-    step: &Step<u64>,
+    step: &Step<Numbered>,
 ) -> Result<(), AllocError>
-    ensures added { OnOk result (out.new ≡ out.old ++ (decimal k ++ codes " " ++ step_line face.now as_it_is step.now)) }
-    ensures long { OnErr result (64 < length out.old + length (decimal k ++ codes " " ++ step_line face.now as_it_is step.now)) }
+    ensures added { OnOk result (out.new ≡ out.old ++ (decimal k ++ codes " " ++ step_line face.now its_number step.now)) }
+    ensures long { OnErr result (64 < length out.old + length (decimal k ++ codes " " ++ step_line face.now its_number step.now)) }
 {
     add_wide(out, k)?;
     out.add(b" ")?;
@@ -78,10 +78,10 @@ fn add_numbered(
 fn add_trace_steps(
     out: &mut ReplyText,
     face: &Face,
-    steps: &[Shared<Step<u64>>],
+    steps: &[Shared<Step<Numbered>>],
 ) -> Result<(), AllocError>
-    ensures added { OnOk result (out.new ≡ out.old ++ step_lines face.now as_it_is 1 steps.now) }
-    ensures long { OnErr result (64 < length out.old + length (step_lines face.now as_it_is 1 steps.now)) }
+    ensures added { OnOk result (out.new ≡ out.old ++ step_lines face.now its_number 1 steps.now) }
+    ensures long { OnErr result (64 < length out.old + length (step_lines face.now its_number 1 steps.now)) }
 {
     let mut k = 1u128;
     for step in steps {
@@ -96,12 +96,12 @@ fn add_list_steps(
     out: &mut ReplyText,
     face: &Face,
     first: u128,
-    steps: &[Step<u64>],
+    steps: &[Step<Numbered>],
 ) -> Result<u128, AllocError>
     requires { first ≤ 2 ^ 127 + 1 }
     ensures next { IfOk result (λ k. k ≡ first + length steps.now) }
-    ensures added { OnOk result (out.new ≡ out.old ++ step_lines face.now as_it_is first steps.now) }
-    ensures long { OnErr result (64 < length out.old + length (step_lines face.now as_it_is first steps.now)) }
+    ensures added { OnOk result (out.new ≡ out.old ++ step_lines face.now its_number first steps.now) }
+    ensures long { OnErr result (64 < length out.old + length (step_lines face.now its_number first steps.now)) }
 {
     let mut k = first;
     for step in steps {
@@ -112,7 +112,7 @@ fn add_list_steps(
 }
 
 // The name of an operation and how its list ends.
-fn add_list_end(out: &mut ReplyText, face: &Face, list: &OpList<u64>) -> Result<(), AllocError>
+fn add_list_end(out: &mut ReplyText, face: &Face, list: &OpList<Numbered>) -> Result<(), AllocError>
     ensures added { OnOk result (out.new ≡ out.old ++ line (op_name face.now list.now.op ++ end_text list.now.end)) }
     ensures long { OnErr result (64 < length out.old + length (line (op_name face.now list.now.op ++ end_text list.now.end))) }
 {
@@ -122,9 +122,9 @@ fn add_list_end(out: &mut ReplyText, face: &Face, list: &OpList<u64>) -> Result<
 }
 
 // The steps of lists, counted through, and how each list ends.
-fn add_lists(out: &mut ReplyText, face: &Face, lists: &[OpList<u64>]) -> Result<(), AllocError>
-    ensures added { OnOk result (out.new ≡ out.old ++ list_lines face.now as_it_is 1 lists.now) }
-    ensures long { OnErr result (64 < length out.old + length (list_lines face.now as_it_is 1 lists.now)) }
+fn add_lists(out: &mut ReplyText, face: &Face, lists: &[OpList<Numbered>]) -> Result<(), AllocError>
+    ensures added { OnOk result (out.new ≡ out.old ++ list_lines face.now its_number 1 lists.now) }
+    ensures long { OnErr result (64 < length out.old + length (list_lines face.now its_number 1 lists.now)) }
 {
     let mut k = 1u128;
     for list in lists {
@@ -185,8 +185,8 @@ fn behind(values: &[Value], count: usize) -> &[Value]
 }
 
 fn add_state(out: &mut ReplyText, face: &Face, values: &[Value]) -> Result<(), AllocError>
-    ensures added { OnOk result (out.new ≡ out.old ++ state_lines face.now as_it_is (Some values.now)) }
-    ensures long { OnErr result (64 < length out.old + length (state_lines face.now as_it_is (Some values.now))) }
+    ensures added { OnOk result (out.new ≡ out.old ++ state_lines face.now its_number (Some values.now)) }
+    ensures long { OnErr result (64 < length out.old + length (state_lines face.now its_number (Some values.now))) }
 {
     let count = face.constants.len();
     add_named(out, face, face.constants.as_slice(), values)?;
@@ -258,9 +258,13 @@ fn add_items(out: &mut ReplyText, face: &Face, items: &[ItemValue]) -> Result<()
     Ok(())
 }
 
-fn add_walk(out: &mut ReplyText, face: &Face, steps: &[Shared<Step<u64>>]) -> Result<(), AllocError>
-    ensures added { OnOk result (out.new ≡ out.old ++ flat_map (step_line face.now as_it_is) steps.now) }
-    ensures long { OnErr result (64 < length out.old + length (flat_map (step_line face.now as_it_is) steps.now)) }
+fn add_walk(
+    out: &mut ReplyText,
+    face: &Face,
+    steps: &[Shared<Step<Numbered>>],
+) -> Result<(), AllocError>
+    ensures added { OnOk result (out.new ≡ out.old ++ flat_map (step_line face.now its_number) steps.now) }
+    ensures long { OnErr result (64 < length out.old + length (flat_map (step_line face.now its_number) steps.now)) }
 {
     for step in steps {
         add_step(out, face, step.get())?;
@@ -271,17 +275,17 @@ fn add_walk(out: &mut ReplyText, face: &Face, steps: &[Shared<Step<u64>>]) -> Re
 fn add_info(
     out: &mut ReplyText,
     face: &Face,
-    state: u64,
+    state: &Numbered,
     position: u64,
     len: u64,
 ) -> Result<(), AllocError>
-    ensures added { OnOk result (out.new ≡ out.old ++ (line (codes "machine " ++ face.now.name) ++ state_line face.now as_it_is state ++ position_line position len)) }
-    ensures long { OnErr result (64 < length out.old + length (line (codes "machine " ++ face.now.name) ++ state_line face.now as_it_is state ++ position_line position len)) }
+    ensures added { OnOk result (out.new ≡ out.old ++ (line (codes "machine " ++ face.now.name) ++ state_line face.now its_number state.now ++ position_line position len)) }
+    ensures long { OnErr result (64 < length out.old + length (line (codes "machine " ++ face.now.name) ++ state_line face.now its_number state.now ++ position_line position len)) }
 {
     out.add(b"machine ")?;
     out.add(face.name.as_slice())?;
     out.add(b"\n")?;
-    add_counted(out, b"state ", state)?;
+    add_counted(out, b"state ", state.number)?;
     add_position(out, position, len)?;
     Ok(())
 }
@@ -290,10 +294,10 @@ fn add_trace(
     out: &mut ReplyText,
     face: &Face,
     position: u64,
-    steps: &[Shared<Step<u64>>],
+    steps: &[Shared<Step<Numbered>>],
 ) -> Result<(), AllocError>
-    ensures added { OnOk result (out.new ≡ out.old ++ trace_lines face.now as_it_is position steps.now) }
-    ensures long { OnErr result (64 < length out.old + length (trace_lines face.now as_it_is position steps.now)) }
+    ensures added { OnOk result (out.new ≡ out.old ++ trace_lines face.now its_number position steps.now) }
+    ensures long { OnErr result (64 < length out.old + length (trace_lines face.now its_number position steps.now)) }
 {
     add_position(out, position, steps.len() as u64)?;
     add_trace_steps(out, face, steps)
@@ -324,9 +328,9 @@ fn add_invariant(out: &mut ReplyText, holds: bool, bounded: bool) -> Result<(), 
     out.add(b"\n")
 }
 
-fn add_lines(out: &mut ReplyText, face: &Face, reply: &Reply<u64>) -> Result<(), AllocError>
-    ensures added { OnOk result (out.new ≡ out.old ++ reply_lines face.now as_it_is reply.now) }
-    ensures long { OnErr result (64 < length out.old + length (reply_lines face.now as_it_is reply.now)) }
+fn add_lines(out: &mut ReplyText, face: &Face, reply: &Reply<Numbered>) -> Result<(), AllocError>
+    ensures added { OnOk result (out.new ≡ out.old ++ reply_lines face.now its_number reply.now) }
+    ensures long { OnErr result (64 < length out.old + length (reply_lines face.now its_number reply.now)) }
 {
     match reply {
         Reply::Silent => Ok(()),
@@ -335,19 +339,19 @@ fn add_lines(out: &mut ReplyText, face: &Face, reply: &Reply<u64>) -> Result<(),
             state,
             position,
             length,
-        } => add_info(out, face, *state, *position, *length),
+        } => add_info(out, face, state, *position, *length),
         Reply::Lists(list) => add_lists(out, face, list.lists.as_slice()),
         Reply::Added { step, subs } => {
             add_step(out, face, step.get())?;
             add_subs(out, face, subs.as_slice())
         }
         Reply::Moved { state, subs } => {
-            add_counted(out, b"state ", *state)?;
+            add_counted(out, b"state ", state.number)?;
             add_subs(out, face, subs.as_slice())
         }
         Reply::Trace { position, steps } => add_trace(out, face, *position, steps.as_slice()),
         Reply::State { state, values } => {
-            add_counted(out, b"state ", *state)?;
+            add_counted(out, b"state ", state.number)?;
             match values {
                 Some(values) => add_state(out, face, values.as_slice()),
                 None => out.add(b"root\n"),
@@ -381,7 +385,7 @@ fn add_error(out: &mut ReplyText, refusal: Refusal) -> Result<(), AllocError>
     out.add(b"\n")
 }
 
-fn add_reply(out: &mut ReplyText, face: &Face, reply: &Reply<u64>) -> Result<(), AllocError>
+fn add_reply(out: &mut ReplyText, face: &Face, reply: &Reply<Numbered>) -> Result<(), AllocError>
     ensures added { OnOk result (out.new ≡ out.old ++ text_of_reply face.now reply.now) }
     ensures long { OnErr result (64 < length out.old + length (text_of_reply face.now reply.now)) }
 {
@@ -396,7 +400,11 @@ fn add_reply(out: &mut ReplyText, face: &Face, reply: &Reply<u64>) -> Result<(),
 }
 
 /// The text of a reply. A text of at most 64 bytes takes no memory; errors, a lone `ok` and a state alone are such.
-pub fn write_reply(alloc: Global, face: &Face, reply: &Reply<u64>) -> Result<ReplyText, AllocError>
+pub fn write_reply(
+    alloc: Global,
+    face: &Face,
+    reply: &Reply<Numbered>,
+) -> Result<ReplyText, AllocError>
     ensures text { IsWritten (text_of_reply face.now reply.now) result }
     ensures brief { IsBrief reply.now → IsOk result }
 {
@@ -404,5 +412,24 @@ pub fn write_reply(alloc: Global, face: &Face, reply: &Reply<u64>) -> Result<Rep
     match add_reply(&mut out, face, reply) {
         Ok(()) => Ok(out),
         Err(AllocError) => Err(AllocError),
+    }
+}
+
+fn add_moved(out: &mut ReplyText, number: u64) -> Result<(), AllocError>
+    ensures added { OnOk result (out.new ≡ out.old ++ (line (codes "state " ++ decimal number) ++ line (codes "ok"))) }
+    ensures long { OnErr result (64 < length out.old + length (line (codes "state " ++ decimal number) ++ line (codes "ok"))) }
+{
+    add_counted(out, b"state ", number)?;
+    out.add(b"ok\n")
+}
+
+/// The text of a reply that tells a state alone, by its number. It takes no memory.
+pub fn write_moved(alloc: Global, number: u64) -> ReplyText
+    ensures { result ≡ line (codes "state " ++ decimal number) ++ line (codes "ok") }
+{
+    let mut out = ReplyText::new(alloc);
+    match add_moved(&mut out, number) {
+        Ok(()) => out,
+        Err(AllocError) => ReplyText::new(alloc),
     }
 }

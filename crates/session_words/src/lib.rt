@@ -8,4 +8,4 @@ mod replies;
 
 pub use commands::{Command, VERBS, Verb};
 pub use refusals::Refusal;
-pub use replies::{ItemValue, Reply, SubText, SubValue};
+pub use replies::{ItemValue, Numbered, Reply, SubText, SubValue};

@@ -1,9 +1,31 @@
 // What a command is answered.
+ghost use Rattle.std.specs.Prelude.{◌≡◌, IfOk};
+
 use crate::refusals::Refusal;
 use b_values::Value;
-use engine_face::{Step, StepList, ValueAnswer};
+use engine_face::{Packed, Step, StepList, ValueAnswer};
 use shared::Shared;
 use sqlite_items::Items;
+use std::alloc::AllocError;
+
+/// A state, packed, with the number under which it was shown.
+#[derive(Debug, Drop)]
+pub struct Numbered {
+    pub state: Packed,
+    pub number: u64,
+}
+
+impl Numbered {
+    /// The same state again. It copies nothing.
+    pub fn share(&self) -> Result<Numbered, AllocError>
+        ensures { IfOk result (λ other. other ≡ self.now) }
+    {
+        Ok(Numbered {
+            state: self.state.share()?,
+            number: self.number,
+        })
+    }
+}
 
 /// The value of a subscription.
 #[derive(Debug, Drop)]
@@ -27,7 +49,7 @@ pub struct ItemValue {
     pub answer: Shared<ValueAnswer>,
 }
 
-/// A reply. `D` stands for a state: a state itself in definitions, its number in the code. `subs` are the values of the
+/// A reply. `D` stands for a state: a state itself in definitions, a numbered one in the code. `subs` are the values of the
 /// subscriptions at the state that the command arrived in.
 #[derive(Debug, Drop)]
 pub enum Reply<D> {

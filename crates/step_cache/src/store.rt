@@ -3,7 +3,7 @@ ghost use Rattle.engine_face.specs.StoreLaws.{IsWithin};
 ghost use Rattle.engine_face.specs.Stores.{Store, empty_store, found, looked, put_in, without};
 ghost use Rattle.std.specs.List.{IsDistinct};
 ghost use Rattle.std.specs.Map.{keys_of};
-ghost use Rattle.std.specs.Prelude.{◌≡◌, ◌≤◌, ◌<◌, IfOk, OnErr, OnOk, IsSome, length};
+ghost use Rattle.std.specs.Prelude.{◌≡◌, ◌+◌, ◌≤◌, ◌<◌, IfOk, OnErr, OnOk, IsSome, length};
 
 use engine_face::{Packed, StepList};
 use lru::LruCache;
@@ -54,6 +54,7 @@ impl StepStore {
     pub fn look(&mut self, at: &Packed) -> Result<Option<Shared<StepList<Packed>>>, AllocError>
         ensures found { IfOk result (λ list. list ≡ found same_bytes self.old at.now) }
         ensures looked { self.new ≡ looked same_bytes self.old at.now }
+        ensures misses { (self.old.misses ≤ self.new.misses) × (self.new.misses ≤ self.old.misses + 1) }
         ensures err { OnErr result (IsSome (found same_bytes self.old at.now)) }
     {
         match self.cache.get(at) {

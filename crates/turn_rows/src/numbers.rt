@@ -1,6 +1,6 @@
-ghost use Rattle.std.specs.Prelude.{◌≡◌, ◌+◌, ◌<◌, ◌≤◌, [], All};
+ghost use Rattle.std.specs.Prelude.{◌≡◌, ◌+◌, ◌<◌, ◌≤◌, [], All, IfOk};
 ghost use Rattle.turn_lock.specs.Turns.{known, IsPassOf, tag_of};
-ghost use Rattle.turn_rows.specs.Histories.{AddsAtMost};
+ghost use Rattle.turn_rows.specs.Histories.{AddsAtMost, HasPlace};
 
 use std::alloc::Global;
 use std::sync::Wait;
@@ -50,6 +50,7 @@ impl Numbers {
     pub fn name(&mut self, x: u64) -> Result<usize, NoMemory>
         ensures root { self.new.root ≡ self.old.root }
         ensures more { AddsAtMost x self.old.more.items self.new.more.items }
+        ensures place { IfOk result (HasPlace self.new.more.items x) }
     {
         match self.more.iter().position(|y| *y == x) {
             Some(place) => Ok(place.saturating_add(1)),
@@ -61,7 +62,7 @@ impl Numbers {
     }
 }
 
-/// Names a number under the turn.
+/// Names a number under the turn: its place among the numbers that the pass has seen then.
 pub fn name<W: Wait>(
     rt: &W,
     turn: &Turn<Numbers>,
@@ -72,6 +73,7 @@ pub fn name<W: Wait>(
     requires above { tag_of (λ numbers. numbers.root) turn.now < x }
     ensures turn { IsPassOf turn.now pass.new × ((known pass.new).shares ≡ (known pass.old).shares) }
     ensures own { ((known pass.new).own ≤ (known pass.old).own + 1) × ((known pass.old).own ≤ (known pass.new).own) }
+    ensures place { IfOk result (HasPlace (known pass.new).seen x) }
 {
     turn.hold(rt, pass, move |numbers: &mut Numbers| numbers.name(x))
 }

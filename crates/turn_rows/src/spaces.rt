@@ -1,5 +1,5 @@
 // A row of turns that is generic over a judge, as a space of stores over an engine is.
-ghost use Rattle.std.specs.Prelude.{◌≡◌, ◌<◌, ◌≤◌, All, IfOk, length};
+ghost use Rattle.std.specs.Prelude.{◌≡◌, ◌≢◌, ◌<◌, ◌≤◌, ℕ, All, IfOk, length, slice_get};
 ghost use Rattle.std.specs.Thread.{IsSync};
 ghost use Rattle.turn_list.specs.Lists.{ArePassesOf, all_known, all_tags};
 
@@ -28,7 +28,7 @@ pub fn open_judged<J: Judge>(
     Ok((turns, passes))
 }
 
-// Puts the judge's best number under the turn at this place.
+// Puts the judge's best number under the turn at this place. What the other passes know is as before.
 fn put_at<W: Wait, J: Judge>(
     rt: &W,
     turns: &[Turn<Judged<J>>],
@@ -39,7 +39,8 @@ fn put_at<W: Wait, J: Judge>(
     requires turns { ArePassesOf turns.now passes.old }
     requires place { place < length turns.now }
     requires judge { All (λ tag. tag ≡ judge.now) (all_tags (λ judged. judged.by.value) turns.now) }
-    ensures { ArePassesOf turns.now passes.new }
+    ensures turns { ArePassesOf turns.now passes.new }
+    ensures others { (other : ℕ) → other ≢ place → slice_get (all_known passes.new) other ≡ slice_get (all_known passes.old) other }
 {
     let x = judge.best();
     hold_at(

@@ -21,6 +21,13 @@ impl Frame {
     {
         self.meanings.get(name).copied()
     }
+
+    /// Whether a name is one of the binder's.
+    pub fn has(&self, name: &[u8]) -> bool
+        ensures { result ≡ is_some (meaning_in self.now.meanings name.now) }
+    {
+        has(&self.meanings, name)
+    }
 }
 
 /// What a name means, from the innermost frame on.
@@ -38,8 +45,8 @@ pub fn find(frames: &[Frame], name: &[u8]) -> Option<Meaning>
     None
 }
 
-// Sets what a name means, whether it meant something or not.
-fn put(
+/// Sets what a name means, whether it meant something or not.
+pub fn put_meaning(
     meanings: &mut HashMap<Vec<u8>, Meaning>,
     alloc: Global,
     name: &[u8],
@@ -72,7 +79,7 @@ pub fn put_name(
     ensures put { OnOk result ((x : List ℕ) → meaning_in meanings.new x ≡ cond (bytes_eq x name.now) (Some (scopes.bound_at part)) (meaning_in meanings.old x)) }
 {
     let known = has(meanings, name);
-    put(
+    put_meaning(
         meanings,
         alloc,
         name,
@@ -97,8 +104,9 @@ fn both(first: bool, second: bool) -> bool
     if first { second } else { false }
 }
 
+/// The frame of names whose parts begin at a number.
 #[tactic(auto, using(crate::proofs::Frames::opening_none, crate::proofs::Frames::opening_more, crate::proofs::Frames::opening_all))]
-fn frame_of(alloc: Global, names: &[Bound], start: usize) -> Result<Opened, AllocError>
+pub fn frame_of(alloc: Global, names: &[Bound], start: usize) -> Result<Opened, AllocError>
     requires room { start + length names.now < 2 ^ 64 }
     ensures frame { IfOk result (λ opened. (x : List ℕ) → meaning_in opened.frame.meanings x ≡ bind (names_of names.now) start nothing_known x) }
     ensures differ { IfOk result (λ opened. opened.differ ≡ scopes.all_differ (names_of names.now)) }
@@ -125,7 +133,8 @@ pub fn take(next: &mut usize) -> Result<usize, AllocError>
     take_all(next, 1)
 }
 
-fn take_all(next: &mut usize, count: usize) -> Result<usize, AllocError>
+/// The number of the first of the next parts.
+pub fn take_all(next: &mut usize, count: usize) -> Result<usize, AllocError>
     ensures whole { IfOk result (λ w. w ≡ next.old) }
     ensures parts { OnOk result (next.new ≡ next.old + count) }
     ensures fits { OnOk result (next.old + count < 2 ^ 64) }
@@ -140,8 +149,8 @@ fn take_all(next: &mut usize, count: usize) -> Result<usize, AllocError>
     }
 }
 
-// Two names of a binder that are equal.
-fn tell_twice(out: &mut Vec<Demand>, differ: bool) -> Result<(), AllocError>
+/// Two names of a binder that are equal.
+pub fn tell_twice(out: &mut Vec<Demand>, differ: bool) -> Result<(), AllocError>
     ensures { OnOk result (out.new.items ≡ out.old.items ++ spec.twice_if differ) }
 {
     if !differ {

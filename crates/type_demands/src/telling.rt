@@ -30,7 +30,8 @@ fn keep(
     Ok(())
 }
 
-fn keep_one(
+/// What a form demands that has one rule.
+pub fn keep_one(
     out: &mut Vec<Demand>,
     rule: Rule,
     left: usize,
@@ -92,7 +93,8 @@ fn walk_alone(out: &mut Vec<Demand>, next: &mut usize, rule: Rule) -> Result<usi
     Ok(whole)
 }
 
-fn walk_name(
+/// A name, which has the type of what it means.
+pub fn walk_name(
     frames: &[Frame],
     out: &mut Vec<Demand>,
     next: &mut usize,
@@ -562,9 +564,9 @@ fn walk_elements(
     Ok(whole)
 }
 
-// A predicate.
+/// A predicate.
 #[cycle(walk)]
-fn walk_predicate(
+pub fn walk_predicate(
     p: &Formula,
     alloc: Global,
     frames: &mut Vec<Frame>,

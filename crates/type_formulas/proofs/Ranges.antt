@@ -39,7 +39,7 @@ within_both c (Twice ∷ ds) es h k = within_both c ds es h k
 pub record Bounded (c : ℕ) (scope : Scope) : Type 0 where
   pub bounded : (x : List ℕ) (m : Meaning) → scope x ≡ Some m → m.part < c
 
-first_or_later : (c n : ℕ) (later : Option Meaning) (m : Meaning) → n < c → (later ≡ Some m → m.part < c) → (t : Bool) → cond t (Some (bound_at n)) later ≡ Some m → m.part < c
+pub first_or_later : (c n : ℕ) (later : Option Meaning) (m : Meaning) → n < c → (later ≡ Some m → m.part < c) → (t : Bool) → cond t (Some (bound_at n)) later ≡ Some m → m.part < c
 first_or_later c n later m h k true e = let f : bound_at n ≡ m = cc in let g = ap (λ (x : Meaning). x.part) f in omega arith
 first_or_later c n later m h k false e = k e
 
@@ -51,7 +51,7 @@ length_names : (ns : List Bound) → length (names_of ns) ≡ length ns
 length_names [] = refl
 length_names (b ∷ ns) = ap suc (length_names ns)
 
-names_bounded : (c : ℕ) (ns : List Bound) (n : ℕ) (scope : Scope) → Bounded c scope → n + length ns ≤ c → Bounded c (bind (names_of ns) n scope)
+pub names_bounded : (c : ℕ) (ns : List Bound) (n : ℕ) (scope : Scope) → Bounded c scope → n + length ns ≤ c → Bounded c (bind (names_of ns) n scope)
 names_bounded c ns n scope b h = bind_bounded c (names_of ns) n scope b (let l = length_names ns in omega arith)
 
 -- ---- trees and steps
@@ -68,13 +68,13 @@ pub record IsStepSaid (k : Step) : Type 0 where
 kept : (c : ℕ) (r : Reading) (l m w : ℕ) → IsReading r → l < c → m < c → w < c → Within c (keeping r l m w ∷ [])
 kept c r l m w is hl hm hw = (record { left = hl; right = hm; whole = hw; reading = is }, tt)
 
-kept_by : (c : ℕ) (q : Rule) (l m w : ℕ) → l < c → m < c → w < c → Within c (obeying q l m w ∷ [])
+pub kept_by : (c : ℕ) (q : Rule) (l m w : ℕ) → l < c → m < c → w < c → Within c (obeying q l m w ∷ [])
 kept_by c q l m w hl hm hw = kept c (reading.One q) l m w tt hl hm hw
 
 is_alone : (q : Rule) → IsSaid (alone q)
 is_alone q = record { some = omega arith; whole = λ n. omega arith; within = λ c scope n b h. kept_by c q n n n (omega arith) (omega arith) (omega arith) }
 
-named_within : (c : ℕ) (o : Option Meaning) (n : ℕ) → ((m : Meaning) → o ≡ Some m → m.part < c) → n < c → Within c (named o n ∷ [])
+pub named_within : (c : ℕ) (o : Option Meaning) (n : ℕ) → ((m : Meaning) → o ≡ Some m → m.part < c) → n < c → Within c (named o n ∷ [])
 named_within c None n h k = tt
 named_within c (Some m) n h k = kept_by c rule.Alike m.part m.part n (h m refl) (h m refl) k
 
@@ -163,7 +163,7 @@ is_listed p q es i = record {
       within_both c (if_empty p n es) (each_demands q scope n (n + 1) es) (empty_within p c n es (omega arith)) (each_within q c scope n (n + 1) es i b (omega arith) (omega arith));
 }
 
-twice_within : (c : ℕ) (t : Bool) → Within c (twice_if t)
+pub twice_within : (c : ℕ) (t : Bool) → Within c (twice_if t)
 twice_within c true = tt
 twice_within c false = tt
 
@@ -185,7 +185,7 @@ tuple_within : (c : ℕ) (ns : List Bound) (n : ℕ) → n + tuple_parts ns ≤ 
 tuple_within c [] n h = tt
 tuple_within c (b ∷ bs) n h = couple_within c n (n + 1) (n + length (b ∷ bs)) bs (omega arith) (omega arith) (omega arith)
 
-predicate_within : (c : ℕ) (p : Said) (scope : Scope) (n : ℕ) → IsSaid p → Bounded c scope → n + p.parts ≤ c → Within c (true_or_false p scope n)
+pub predicate_within : (c : ℕ) (p : Said) (scope : Scope) (n : ℕ) → IsSaid p → Bounded c scope → n + p.parts ≤ c → Within c (true_or_false p scope n)
 predicate_within c p scope n i b h =
     let w = i.whole n in
     within_both c (p.demands scope n) (obeying rule.Truth (p.whole n) (p.whole n) (p.whole n) ∷ []) (i.within c scope n b h) (kept_by c rule.Truth (p.whole n) (p.whole n) (p.whole n) (omega arith) (omega arith) (omega arith))

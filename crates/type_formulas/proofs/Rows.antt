@@ -19,7 +19,7 @@ use Rattle.type_count.specs.Typings.{IsTyping, Agrees}
 use Rattle.type_schemes.specs.Growing.{Extends, Demands}
 use Rattle.type_schemes.proofs.Joining.{joined, joined_front, joined_back}
 use Rattle.type_formulas.specs.Putting.{IsPut, Puts}
-use Rattle.type_formulas.specs.Typings.{AreKnown}
+use Rattle.type_formulas.specs.Typings.{AreKnown, IsAt}
 
 at_front : (rows more : List Row) (i : ℕ) → i < length rows → row_at (rows ++ more) i ≡ row_at rows i
 at_front [] more i h = absurd (omega arith)
@@ -218,6 +218,68 @@ known_one old mid slice new out t p i (Ok true) inside put e f u = subst (λ l. 
 known_one old mid slice new out t p i (Ok false) inside put e f u = known_false old mid new t p i inside put (subst (λ l. Adds l new (λ s. s i ≡ s p) false) e u)
 known_one old mid slice new out t p i (Err x) inside put e f u = tt
 
+-- the same of what the part's type has to be, said otherwise
+pub demands_as : (old new : List Row) (Q R : Typing → Type 0) (r : Result Bool AllocError) → ((s : Typing) → Q s → R s) → ((s : Typing) → R s → Q s) → Demands old new Q r → Demands old new R r
+demands_as old new Q R (Ok true) to from e = record {
+  table = e.table;
+  longer = e.longer;
+  forth = λ limit s typing r. e.forth limit s typing (from s r);
+  back = λ limit s typing. let b = e.back limit s typing in (b.0, to s b.1);
+}
+demands_as old new Q R (Ok false) to from e = λ limit s typing r. e limit s typing (from s r)
+demands_as old new Q R (Err x) to from e = tt
+
+-- ---- one of several lists that stand one after another
+
+get_front : (xs ys : List NameFace) (i : ℕ) (d : NameFace) → i < length xs → get_or (xs ++ ys) i d ≡ get_or xs i d
+get_front [] ys i d h = absurd (omega arith)
+get_front (x ∷ xs) ys zero d h = refl
+get_front (x ∷ xs) ys (suc i) d h = get_front xs ys i d (omega arith)
+
+get_back : (xs ys : List NameFace) (i j : ℕ) (d : NameFace) → i ≡ length xs + j → get_or (xs ++ ys) i d ≡ get_or ys j d
+get_back [] ys i j d e = let f : i ≡ j = omega arith in ap (λ k. get_or ys k d) f
+get_back (x ∷ xs) ys zero j d e = absurd (omega arith)
+get_back (x ∷ xs) ys (suc i) j d e = get_back xs ys i j d (omega arith)
+
+get_any : (l : List NameFace) (i : ℕ) (x y : NameFace) → i < length l → get_or l i x ≡ get_or l i y
+get_any [] i x y h = absurd (omega arith)
+get_any (z ∷ l) zero x y h = refl
+get_any (z ∷ l) (suc i) x y h = get_any l i x y (omega arith)
+
+at_as : (known : List NameFace) (i : ℕ) (old new : List Row) (k : NameFace) (r : Result Bool AllocError) → ((d : NameFace) → get_or known i d ≡ k) → Demands old new (λ s. s i ≡ k.ty) r → Demands old new (IsAt known i) r
+at_as known i old new k r e h =
+    demands_as old new (λ s. s i ≡ k.ty) (IsAt known i) r
+    (λ s f d. f ∙ sym (ap (λ (x : NameFace). x.ty) (e d)))
+    (λ s f. f k ∙ ap (λ (x : NameFace). x.ty) (e k))
+    h
+
+pub at_first : (a b c d : List NameFace) (i : ℕ) (old new : List Row) (k : NameFace) (r : Result Bool AllocError) → i < length a → k ≡ get_or a i k → Demands old new (λ s. s i ≡ (get_or a i k).ty) r → Demands old new (IsAt (a ++ b ++ c ++ d) i) r
+at_first a b c d i old new k r h e f =
+    at_as (a ++ b ++ c ++ d) i old new k r
+    (λ x. get_front (a ++ b ++ c) d i x (let l = length-append (a ++ b) c in let m = length-append a b in omega arith) ∙ get_front (a ++ b) c i x (let m = length-append a b in omega arith) ∙ get_front a b i x h ∙ get_any a i x k h ∙ sym e)
+    (subst (λ (y : NameFace). Demands old new (λ s. s i ≡ y.ty) r) (sym e) f)
+
+pub at_second : (a b c d : List NameFace) (i j : ℕ) (old new : List Row) (k : NameFace) (r : Result Bool AllocError) → i ≡ length a + j → j < length b → k ≡ get_or b j k → Demands old new (λ s. s i ≡ (get_or b j k).ty) r → Demands old new (IsAt (a ++ b ++ c ++ d) i) r
+at_second a b c d i j old new k r g h e f =
+    at_as (a ++ b ++ c ++ d) i old new k r
+    (λ x. get_front (a ++ b ++ c) d i x (let l = length-append (a ++ b) c in let m = length-append a b in omega arith) ∙ get_front (a ++ b) c i x (let m = length-append a b in omega arith) ∙ get_back a b i j x g ∙ get_any b j x k h ∙ sym e)
+    (subst (λ (y : NameFace). Demands old new (λ s. s i ≡ y.ty) r) (sym e) f)
+
+pub at_third : (a b c d : List NameFace) (i j : ℕ) (old new : List Row) (k : NameFace) (r : Result Bool AllocError) → i ≡ length a + length b + j → j < length c → k ≡ get_or c j k → Demands old new (λ s. s i ≡ (get_or c j k).ty) r → Demands old new (IsAt (a ++ b ++ c ++ d) i) r
+at_third a b c d i j old new k r g h e f =
+    let m = length-append a b in
+    at_as (a ++ b ++ c ++ d) i old new k r
+    (λ x. get_front (a ++ b ++ c) d i x (let l = length-append (a ++ b) c in omega arith) ∙ get_back (a ++ b) c i j x (omega arith) ∙ get_any c j x k h ∙ sym e)
+    (subst (λ (y : NameFace). Demands old new (λ s. s i ≡ y.ty) r) (sym e) f)
+
+pub at_fourth : (a b c d : List NameFace) (i j : ℕ) (old new : List Row) (k : NameFace) (r : Result Bool AllocError) → i ≡ length a + length b + length c + j → j < length d → k ≡ get_or d j k → Demands old new (λ s. s i ≡ (get_or d j k).ty) r → Demands old new (IsAt (a ++ b ++ c ++ d) i) r
+at_fourth a b c d i j old new k r g h e f =
+    let m = length-append a b in
+    let l = length-append (a ++ b) c in
+    at_as (a ++ b ++ c ++ d) i old new k r
+    (λ x. get_back (a ++ b ++ c) d i j x (omega arith) ∙ get_any d j x k h ∙ sym e)
+    (subst (λ (y : NameFace). Demands old new (λ s. s i ≡ y.ty) r) (sym e) f)
+
 -- ---- the known names, one by one
 
 abbrev KnownBelow : List NameFace → ℕ → Typing → Type 0
@@ -238,28 +300,17 @@ knowing_none old known table = record {
   };
 }
 
-module _ (old now : List Row) (known : List NameFace) (n : ℕ) (k : NameFace) (inside : length known ≤ length old) (below : n < length known) (is : k ≡ get_or known n k) (g : IsKnowing old now known n) where
-  same_name : (d : NameFace) → get_or known n d ≡ k
-  same_name d = get_any known n d k below ∙ sym is
-    where
-      get_any : (l : List NameFace) (i : ℕ) (x y : NameFace) → i < length l → get_or l i x ≡ get_or l i y
-      get_any [] i x y h = absurd (omega arith)
-      get_any (z ∷ l) zero x y h = refl
-      get_any (z ∷ l) (suc i) x y h = get_any l i x y (omega arith)
-
+module _ (old now : List Row) (known : List NameFace) (n : ℕ) (inside : length known ≤ length old) (below : n < length known) (g : IsKnowing old now known n) where
   pub knowing_inside : n < length now
   knowing_inside = let a = g.extends.longer in omega arith
 
-  below_more : (s : Typing) → KnownBelow known n s → s n ≡ k.ty → KnownBelow known (n + 1) s
+  below_more : (s : Typing) → KnownBelow known n s → IsAt known n s → KnownBelow known (n + 1) s
   below_more s b e i d h = elim (cases_eq i n) [
-    | inl f ↦ subst (λ j. s j ≡ (get_or known j d).ty) (sym f) (e ∙ sym (ap (λ (x : NameFace). x.ty) (same_name d)))
+    | inl f ↦ subst (λ j. s j ≡ (get_or known j d).ty) (sym f) (e d)
     | inr f ↦ b i d (omega arith)
   ]
 
-  this_one : (s : Typing) → KnownBelow known (n + 1) s → s n ≡ k.ty
-  this_one s b = b n k (omega arith) ∙ ap (λ (x : NameFace). x.ty) (sym is)
-
-  pub knowing_more : (new : List Row) → Extends now new (λ s. s n ≡ k.ty) → IsKnowing old new known (n + 1)
+  pub knowing_more : (new : List Row) → Extends now new (IsAt known n) → IsKnowing old new known (n + 1)
   knowing_more new e = record {
     within = omega arith;
     extends = record {
@@ -267,7 +318,7 @@ module _ (old now : List Row) (known : List NameFace) (n : ℕ) (k : NameFace) (
       longer = (let a = g.extends.longer in let b = e.longer in omega arith);
       forth = λ limit s typing b.
           let t = g.extends.forth limit s typing (λ i d h. b i d (omega arith)) in
-          let u = e.forth limit t.0 t.1 (t.2 n (omega arith) ∙ this_one s b) in
+          let u = e.forth limit t.0 t.1 (λ d. t.2 n (omega arith) ∙ b n d (omega arith)) in
           (u.0, u.1, λ i h. u.2 i (let a = g.extends.longer in omega arith) ∙ t.2 i h);
       back = λ limit s typing.
           let a = e.back limit s typing in
@@ -276,10 +327,10 @@ module _ (old now : List Row) (known : List NameFace) (n : ℕ) (k : NameFace) (
     };
   }
 
-  pub knowing_clash : ((limit : ℕ) (s : Typing) → IsTyping limit now s → s n ≡ k.ty → ⊥) → (limit : ℕ) (s : Typing) → IsTyping limit old s → AreKnown known s → ⊥
+  pub knowing_clash : ((limit : ℕ) (s : Typing) → IsTyping limit now s → IsAt known n s → ⊥) → (limit : ℕ) (s : Typing) → IsTyping limit old s → AreKnown known s → ⊥
   knowing_clash without limit s typing b =
       let t = g.extends.forth limit s typing (λ i d h. b i d (omega arith)) in
-      without limit t.0 t.1 (t.2 n (omega arith) ∙ b n k below ∙ ap (λ (x : NameFace). x.ty) (sym is))
+      without limit t.0 t.1 (λ d. t.2 n (omega arith) ∙ b n d below)
 
 pub knowing_all : (old now : List Row) (known : List NameFace) (n : ℕ) → length known ≤ n → IsKnowing old now known n → Extends old now (AreKnown known)
 knowing_all old now known n h g = record {

@@ -1,5 +1,5 @@
 -- The typings of a formula where names with their types are known.
-use Rattle.std.specs.Prelude.{◌≡◌, ◌≤◌, ◌<◌, ◌+◌, ℕ, Bool, true, false, List, [], ◌∷◌, length, map, get_or, Result, Ok, Err}
+use Rattle.std.specs.Prelude.{◌≡◌, ◌≤◌, ◌<◌, ◌+◌, ℕ, Bool, true, false, List, [], ◌∷◌, ◌++◌, length, map, get_or, Result, Ok, Err}
 use Rattle.std.specs.List.{AllByRecursion}
 use Rattle.std.specs.declared.alloc.AllocError.{AllocError}
 use Rattle.b_values.specs.declared.types.Ty.{Ty}
@@ -18,6 +18,7 @@ use Rattle.type_demands.specs.declared.demands.Demand.{Demand}
 use Rattle.type_demands.specs.declared.demands.Demand.TheVariants.{Keep, Unknown, Twice}
 use Rattle.type_demands.specs.Scopes.{Scope, nothing_known, bind}
 use Rattle.type_demands.specs.Demands.{said}
+use Rattle.type_formulas.specs.declared.known.Known.{Known}
 use Rattle.type_formulas.specs.declared.typing.Answer.{Answer}
 use Rattle.type_formulas.specs.declared.typing.Answer.TheVariants as answer
 
@@ -33,6 +34,14 @@ MeetsAll s = AllByRecursion (Meets s)
 -- the names that are known are the first parts, and have their types
 abbrev pub AreKnown : List NameFace → Typing → Type 0
 AreKnown known s = (i : ℕ) (d : NameFace) → i < length known → s i ≡ (get_or known i d).ty
+
+-- the part has the type of the name at its place
+abbrev pub IsAt : List NameFace → ℕ → Typing → Type 0
+IsAt known i s = (d : NameFace) → s i ≡ (get_or known i d).ty
+
+-- the known names in the order of their parts
+abbrev pub all_known : Known → List NameFace
+all_known k = k.sets.now ++ k.constants.now ++ k.variables.now ++ k.params.now
 
 -- what known names mean; of equal ones the first counts
 abbrev pub known_names : List NameFace → List (List ℕ)

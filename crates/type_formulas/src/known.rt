@@ -4,13 +4,23 @@ ghost use Rattle.type_table.specs.Tables.{IsTable};
 ghost use Rattle.type_schemes.specs.Growing.{Demands};
 ghost use Rattle.type_formulas.specs.Putting.{Puts};
 ghost use Rattle.type_demands.specs.Scopes.{meaning_in, scope_of};
-ghost use Rattle.type_formulas.specs.Typings.{AreKnown, scope_known};
+ghost use Rattle.type_formulas.specs.Typings.{AreKnown, IsAt, all_known, scope_known};
 
 use b_values::{NameFace, Ty};
 use std::alloc::{AllocError, Global};
 use std::collections::HashMap;
-use type_demands::{Frame, put_name};
+use type_demands::{Frame, put_name, take_all};
 use type_table::{Basic, Row, unify};
+
+/// Names whose types are known: of sets and of their elements, constants, variables and parameters. Their parts are the
+/// first ones, in this order.
+#[derive(Clone, Copy)]
+pub struct Known<'a> {
+    pub sets: &'a [NameFace],
+    pub constants: &'a [NameFace],
+    pub variables: &'a [NameFace],
+    pub params: &'a [NameFace],
+}
 
 // The frame of known names, of which the first of two equal ones counts.
 #[tactic(auto, using(type_demands::proofs::Frames::opening_none, type_demands::proofs::Frames::opening_more, type_demands::proofs::Frames::opening_all))]
@@ -87,15 +97,59 @@ fn know(alloc: Global, rows: &mut Vec<Row>, i: usize, ty: &Ty) -> Result<bool, A
     unify(alloc, rows.as_mut_slice(), i, part)
 }
 
+// Makes a part be of the type of the known name at its place.
+fn know_at(
+    alloc: Global,
+    rows: &mut Vec<Row>,
+    known: &Known<'_>,
+    i: usize,
+) -> Result<bool, AllocError>
+    requires table { IsTable rows.old.items }
+    requires row { i < length rows.old.items }
+    requires inside { i < length (all_known known.now) }
+    ensures { Demands rows.old.items rows.new.items (IsAt (all_known known.now) i) result }
+{
+    if i < known.sets.len() {
+        return know(alloc, rows, i, &known.sets[i].ty);
+    }
+    let j = i - known.sets.len();
+    if j < known.constants.len() {
+        return know(alloc, rows, i, &known.constants[j].ty);
+    }
+    let k = j - known.constants.len();
+    if k < known.variables.len() {
+        return know(alloc, rows, i, &known.variables[k].ty);
+    }
+    let l = k - known.variables.len();
+    know(alloc, rows, i, &known.params[l].ty)
+}
+
+/// The number of known names.
+pub fn known_count(known: &Known<'_>) -> Result<usize, AllocError>
+    ensures { IfOk result (λ n. n ≡ length (all_known known.now)) }
+{
+    let mut count = known.sets.len();
+    take_all(&mut count, known.constants.len())?;
+    take_all(&mut count, known.variables.len())?;
+    take_all(&mut count, known.params.len())?;
+    Ok(count)
+}
+
 /// Makes the first parts be of the types of known names, or finds that they can't.
 #[tactic(auto, using(crate::proofs::Rows::knowing_none, crate::proofs::Rows::knowing_more, crate::proofs::Rows::knowing_clash, crate::proofs::Rows::knowing_all))]
-pub fn know_all(alloc: Global, rows: &mut Vec<Row>, known: &[NameFace]) -> Result<bool, AllocError>
+pub fn know_all(
+    alloc: Global,
+    rows: &mut Vec<Row>,
+    known: &Known<'_>,
+    count: usize,
+) -> Result<bool, AllocError>
     requires table { IsTable rows.old.items }
-    requires inside { length known.now ≤ length rows.old.items }
-    ensures { Demands rows.old.items rows.new.items (AreKnown known.now) result }
+    requires all { count ≡ length (all_known known.now) }
+    requires inside { count ≤ length rows.old.items }
+    ensures { Demands rows.old.items rows.new.items (AreKnown (all_known known.now)) result }
 {
-    for i in 0..known.len() {
-        if !know(alloc, rows, i, &known[i].ty)? {
+    for i in 0..count {
+        if !know_at(alloc, rows, known, i)? {
             return Ok(false);
         }
     }

@@ -5,5 +5,5 @@ mod known;
 mod sorting;
 mod typing;
 
-pub use known::{know_all, put_type};
-pub use typing::{Answer, TYPE_LIMIT, type_formula};
+pub use known::{Known, know_all, known_count, put_type};
+pub use typing::{Answer, TYPE_LIMIT, judged, type_formula};

@@ -3,9 +3,9 @@ ghost use Rattle.std.specs.Prelude.{◌≡◌, ◌≤◌, IfOk, length};
 ghost use Rattle.type_choices.specs.Choosing.{IsTyped};
 ghost use Rattle.type_choices.specs.Forms.{AreForms};
 ghost use Rattle.type_formulas.specs.Typings as spec;
-ghost use Rattle.type_formulas.specs.Typings.{Answers, CanBeRead, IsAnswer, Keeping};
+ghost use Rattle.type_formulas.specs.Typings.{Answers, CanBeRead, IsAnswer, Keeping, all_known};
 
-use crate::known::{know_all, outer};
+use crate::known::{Known, know_all, known_count, outer};
 use crate::sorting::{any_twice, any_unknown, forms_in};
 use b_ast::Formula;
 use b_values::NameFace;
@@ -36,16 +36,17 @@ pub enum Answer {
 #[tactic(auto, using(crate::proofs::Answering::solved, crate::proofs::Answering::solved_none, crate::proofs::Answering::open_inside, crate::proofs::Answering::open_is_table))]
 fn solve(
     alloc: Global,
-    known: &[NameFace],
+    known: &Known<'_>,
     forms: Vec<Form>,
     parts: usize,
 ) -> Result<Typed, AllocError>
-    requires known { length known.now ≤ parts }
+    requires known { length (all_known known.now) ≤ parts }
     requires forms { AreForms parts forms.items }
-    ensures { IfOk result (IsTyped 500 parts (Keeping 500 known.now forms.items parts)) }
+    ensures { IfOk result (IsTyped 500 parts (Keeping 500 (all_known known.now) forms.items parts)) }
 {
     let mut rows = open_table(alloc, parts)?;
-    if !know_all(alloc, &mut rows, known)? {
+    let count = known_count(known)?;
+    if !know_all(alloc, &mut rows, known, count)? {
         return Ok(Typed::Nothing);
     }
     type_forms(alloc, rows, forms, parts, TYPE_LIMIT)
@@ -61,18 +62,19 @@ fn answered(typed: Typed, whole: usize) -> Answer
     }
 }
 
-// Unknown names come first, then equal names of a binder, then the number of typings.
+/// What is said of demands beside known names. Unknown names come first, then equal names of a binder, then the number of
+/// typings.
 #[tactic(auto, using(crate::proofs::Answering::answered_is))]
-fn judged(
+pub fn judged(
     alloc: Global,
-    known: &[NameFace],
+    known: &Known<'_>,
     demands: &[Demand],
     parts: usize,
     whole: usize,
 ) -> Result<Answer, AllocError>
-    requires known { length known.now ≤ parts }
+    requires known { length (all_known known.now) ≤ parts }
     requires forms { AreForms parts (spec.forms_in demands.now) }
-    ensures { IfOk result (Answers 500 known.now demands.now parts whole) }
+    ensures { IfOk result (Answers 500 (all_known known.now) demands.now parts whole) }
 {
     if any_unknown(demands) {
         return Ok(Answer::UnknownName);
@@ -85,6 +87,18 @@ fn judged(
     Ok(answered(typed, whole))
 }
 
+// Known names of one kind.
+fn only(known: &[NameFace]) -> Known<'_>
+    ensures { all_known result ≡ known.now }
+{
+    Known {
+        sets: &[],
+        constants: known,
+        variables: &[],
+        params: &[],
+    }
+}
+
 /// The one typing of a formula beside known names, of which the first of two equal ones counts, or why there is none.
 #[tactic(auto, using(crate::proofs::Answering::demands_within, crate::proofs::Answering::parts_known, crate::proofs::Answering::readable))]
 pub fn type_formula(alloc: Global, known: &[NameFace], tree: &Formula) -> Result<Answer, AllocError>
@@ -95,5 +109,6 @@ pub fn type_formula(alloc: Global, known: &[NameFace], tree: &Formula) -> Result
     let mut demands = Vec::new(alloc);
     let mut next = known.len();
     let whole = walk(tree, alloc, &mut frames, &mut demands, &mut next)?;
-    judged(alloc, known, demands.as_slice(), next, whole)
+    let all = only(known);
+    judged(alloc, &all, demands.as_slice(), next, whole)
 }

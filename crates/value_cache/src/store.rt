@@ -3,7 +3,7 @@ ghost use Rattle.engine_face.specs.Stores.{Store, empty_store, found, looked, pu
 ghost use Rattle.value_cache.specs.Keys.{same_key};
 ghost use Rattle.std.specs.List.{IsDistinct};
 ghost use Rattle.std.specs.Map.{keys_of};
-ghost use Rattle.std.specs.Prelude.{◌≡◌, ◌≤◌, ◌<◌, IfOk, OnErr, OnOk, IsSome, length};
+ghost use Rattle.std.specs.Prelude.{◌≡◌, ◌+◌, ◌≤◌, ◌<◌, IfOk, OnErr, OnOk, IsSome, length};
 
 use engine_face::{FormulaKey, Packed, ValueAnswer};
 use lru::LruCache;
@@ -72,6 +72,7 @@ impl ValueStore {
     pub fn look(&mut self, key: &ValueKey) -> Result<Option<Shared<ValueAnswer>>, AllocError>
         ensures found { IfOk result (λ answer. answer ≡ found same_key self.old key.now) }
         ensures looked { self.new ≡ looked same_key self.old key.now }
+        ensures misses { (self.old.misses ≤ self.new.misses) × (self.new.misses ≤ self.old.misses + 1) }
         ensures err { OnErr result (IsSome (found same_key self.old key.now)) }
     {
         match self.cache.get(key) {

@@ -9,7 +9,7 @@ use Rattle.b_stretches.specs.Stretches.{pieces, next_of}
 use Rattle.b_stretches.proofs.Reading.{made_fails, parted_none, ended_none, ended_on, enclosed_none, enclosed_on, list_begin, list_end, left_less, follow_less, follow_begin, follow_end}
 use Rattle.b_read_subst.specs.Blocks.{inside, IsPart, IsBlock, IsGuarded, AreBranches, AreAllBranches, AreChoices, IsLabelled, AreCaseBranches, AreAllCaseBranches, AreAlternatives}
 use Rattle.b_read_subst.specs.Making.{guarded, conditional, select, casing, any, block, choice}
-use Rattle.b_read_subst.proofs.Answering.{made_on, parted_pair, parted_if_pair, row_pair, list_push, list_unpushed, follow_push, follow_unpushed, otherwise_on}
+use Rattle.b_stretches.proofs.Answering.{made_on, parted_pair, parted_if_pair, row_pair, list_push, list_unpushed, follow_push, follow_unpushed, otherwise_on}
 use Rattle.b_read_subst.proofs.Lets.{let_no_be, let_no_in, let_on}
 use Rattle.b_read_subst.proofs.Laws.{subst_answers, inside_none, inside_less, part_skip, part_block, part_simple, part_none, block_is, block_other}
 use Rattle.b_read_subst.proofs.+reading.Goals as goal

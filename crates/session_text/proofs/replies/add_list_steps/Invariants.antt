@@ -1,11 +1,11 @@
 use Rattle.std.proofs.Common.{◌≡◌, ◌+◌, ◌++◌, drop}
 use Rattle.session_words.specs.Replies.{step_lines}
-use Rattle.session_text.specs.Writing.{as_it_is}
+use Rattle.session_text.specs.Writing.{its_number}
 use Rattle.session_text.proofs.replies.add_list_steps.Given as goal
 
 -- the lines that are left stand behind those that are written
 abbrev pub invariant-loop-step : goal.invariant-loop-step
 invariant-loop-step l = record {
-  text : l.out ++ step_lines l.face as_it_is l.k (drop l.step-index l.steps) ≡ l.fn.out ++ step_lines l.face as_it_is l.fn.first l.steps;
+  text : l.out ++ step_lines l.face its_number l.k (drop l.step-index l.steps) ≡ l.fn.out ++ step_lines l.face its_number l.fn.first l.steps;
   counted : l.k ≡ l.fn.first + l.step-index;
 }

@@ -10,6 +10,7 @@ use Rattle.type_formulas.proofs.typing.type_formula.Goals as goal
 pub judged-requires-clause-known : goal.judged-requires-clause-known
 judged-requires-clause-known c =
     let same_parts : c.walk.new.next ≡ parts_in c.args.known.now c.args.tree.now = c.in_ok-whole.ensures.parts in
+    let same_known = ap length c.only-all.ensures in
     omega arith
 
 pub judged-requires-clause-forms : goal.judged-requires-clause-forms
@@ -35,7 +36,8 @@ returns-clause-answer c =
     let same_whole : c.in_ok-whole.whole ≡ whole_in c.args.known.now c.args.tree.now = c.in_ok-whole.ensures.whole in
     subst (λ w. IfOk c.judged.result (Answers 500 known (demands_in known tree) (parts_in known tree) w)) same_whole
     (subst (λ n. IfOk c.judged.result (Answers 500 known (demands_in known tree) n c.in_ok-whole.whole)) same_parts
-    (subst (λ d. IfOk c.judged.result (Answers 500 known d c.walk.new.next c.in_ok-whole.whole)) same_demands c.judged.ensures))
+    (subst (λ d. IfOk c.judged.result (Answers 500 known d c.walk.new.next c.in_ok-whole.whole)) same_demands
+    (subst (λ k. IfOk c.judged.result (Answers 500 k c.as_slice.result.now c.walk.new.next c.in_ok-whole.whole)) c.only-all.ensures c.judged.ensures)))
 
 pub returns-clause-read : goal.returns-clause-read
 returns-clause-read c = readable 500 c.args.known.now c.args.tree.now c.judged.result (returns-clause-answer c)

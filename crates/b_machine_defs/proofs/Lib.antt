@@ -1,0 +1,2 @@
+-- Lemmas of definitions.
+pub mod FromBehind

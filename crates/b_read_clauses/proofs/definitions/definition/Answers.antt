@@ -1,0 +1,24 @@
+use Rattle.std.proofs.lemmas.Result.{err_from_is_err_and}
+use Rattle.b_machine_grammar.specs.declared.words.Word.TheVariants as word
+use Rattle.b_machine_grammar.specs.Cuts.{cut_at, IsParted}
+use Rattle.b_machine_grammar.specs.Grammar.{definition, IsHeader, IsBody}
+use Rattle.b_stretches.specs.Stretches.{pieces}
+use Rattle.b_stretches.proofs.Reading.{made_fails, parted_none}
+use Rattle.b_stretches.proofs.Answering.{made_on, parted_pair}
+use Rattle.b_read_clauses.proofs.definitions.definition.Goals as goal
+
+pub returns-in_err-front : goal.returns-in_err-front
+returns-in_err-front c =
+    let p = err_from_is_err_and c.from_residual.result c.from_residual.ensures.1 in
+    rw (p.1, p.2) (made_fails definition (IsParted (cut_at word.Defined) IsHeader (λ s. IsBody c.args.depth)) (pieces c.args.s) c.in_err-front.field-0.0 (parted_none (cut_at word.Defined) IsHeader (IsBody c.args.depth) (pieces c.args.s) c.in_err-front.field-0.0 c.in_err-front.ensures))
+
+pub returns : goal.returns
+returns c =
+    made_on
+    definition
+    (IsParted (cut_at word.Defined) IsHeader (λ s. IsBody c.args.depth))
+    (pieces c.args.s)
+    c.pair-parts.result
+    c.definition_of.result
+    c.definition_of.ensures
+    (parted_pair (cut_at word.Defined) IsHeader (IsBody c.args.depth) (pieces c.args.s) c.in_ok-front.front c.in_ok-front.back c.in_ok-front.ensures c.header.result c.body.result c.pair-parts.result c.pair-parts.ensures c.header.ensures c.body.ensures)

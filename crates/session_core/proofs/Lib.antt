@@ -1,0 +1,15 @@
+pub mod Tracing
+pub mod Starts
+pub mod Numbering
+pub mod Feeds
+pub mod Ends
+pub mod Walks
+pub mod Places
+pub mod Operations
+pub mod Fits
+pub mod Calls
+pub mod Spared
+pub mod Leads
+pub mod Keeping
+pub mod Listing
+pub mod Quits
