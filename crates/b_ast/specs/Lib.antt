@@ -1,2 +1,3 @@
 -- Definitions on trees.
 pub mod Sorts
+pub mod Priorities

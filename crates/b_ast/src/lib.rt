@@ -282,6 +282,7 @@ pub enum FormulaText {
 }
 
 pub mod machine;
+pub mod priorities;
 pub mod sorts;
 
 #[cfg(test)]

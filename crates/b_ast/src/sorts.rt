@@ -4,7 +4,8 @@ ghost use Rattle.b_ast.specs.Sorts as spec;
 
 use crate::{After, Formula, Function, Link, Operator, Quantifier, Sort};
 
-fn operand_sort(operator: Operator) -> Sort
+/// The sort that an operator asks of its operands.
+pub fn operand_sort(operator: Operator) -> Sort
     ensures { result ≡ spec.operand_sort operator }
 {
     match operator {
@@ -14,7 +15,8 @@ fn operand_sort(operator: Operator) -> Sort
     }
 }
 
-fn chain_sort(operator: Operator) -> Sort
+/// The sort of a chain that begins with an operator.
+pub fn chain_sort(operator: Operator) -> Sort
     ensures { result ≡ spec.chain_sort operator }
 {
     match operator {
@@ -38,7 +40,8 @@ fn chain_sort(operator: Operator) -> Sort
     }
 }
 
-fn argument_sort(function: Function) -> Sort
+/// The sort that a function word asks of its arguments.
+pub fn argument_sort(function: Function) -> Sort
     ensures { result ≡ spec.argument_sort function }
 {
     match function {
@@ -47,7 +50,8 @@ fn argument_sort(function: Function) -> Sort
     }
 }
 
-fn call_sort(function: Function) -> Sort
+/// The sort of a function word with its arguments.
+pub fn call_sort(function: Function) -> Sort
     ensures { result ≡ spec.call_sort function }
 {
     match function {
@@ -56,7 +60,8 @@ fn call_sort(function: Function) -> Sort
     }
 }
 
-fn body_sort(quantifier: Quantifier) -> Sort
+/// The sort that a quantifier asks of its formula.
+pub fn body_sort(quantifier: Quantifier) -> Sort
     ensures { result ≡ spec.body_sort quantifier }
 {
     match quantifier {
@@ -65,7 +70,8 @@ fn body_sort(quantifier: Quantifier) -> Sort
     }
 }
 
-fn fits(wanted: Sort, sort: Option<Sort>) -> bool
+/// Whether a tree has a wanted sort: an implication is a predicate too.
+pub fn fits(wanted: Sort, sort: Option<Sort>) -> bool
     ensures { result ≡ spec.fits wanted sort }
 {
     match (wanted, sort) {

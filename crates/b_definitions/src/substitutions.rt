@@ -1,7 +1,7 @@
 //! The definitions that substitutions use.
 ghost use Rattle.std.specs.Prelude.{◌≡◌, ◌++◌, map, IfOk};
 ghost use Rattle.b_definitions.specs.Uses as spec;
-ghost use Rattle.b_definitions.specs.Tables.{IsIndexed};
+ghost use Rattle.b_definitions.specs.Bodies.{IsReady};
 
 use crate::uses::{Body, binds, collect, collect_all, meant, with_meant};
 use b_ast::machine::{Branch, CaseBranch, Step, Subst};
@@ -16,7 +16,7 @@ pub fn collect_subst(
     found: Items<usize>,
     body: &Body<'_>,
 ) -> Result<Items<usize>, AllocError>
-    requires { IsIndexed body.now.table.now body.now.index.now }
+    requires { IsReady body.now }
     ensures { IfOk result (λ xs. xs ≡ found ++ spec.used_in_subst body.now.table.now body.now.params.now subst.now) }
 {
     match subst {
@@ -90,7 +90,7 @@ fn collect_substs(
     found: Items<usize>,
     body: &Body<'_>,
 ) -> Result<Items<usize>, AllocError>
-    requires { IsIndexed body.now.table.now body.now.index.now }
+    requires { IsReady body.now }
     ensures { IfOk result (λ xs. xs ≡ found ++ spec.joined (map (spec.used_in_subst body.now.table.now body.now.params.now) substs.now)) }
 {
     let mut all = found;
@@ -107,7 +107,7 @@ fn collect_branches(
     found: Items<usize>,
     body: &Body<'_>,
 ) -> Result<Items<usize>, AllocError>
-    requires { IsIndexed body.now.table.now body.now.index.now }
+    requires { IsReady body.now }
     ensures { IfOk result (λ xs. xs ≡ found ++ spec.joined (map (spec.used_in_branch body.now.table.now body.now.params.now) branches.now)) }
 {
     let mut all = found;
@@ -124,7 +124,7 @@ fn collect_branch(
     found: Items<usize>,
     body: &Body<'_>,
 ) -> Result<Items<usize>, AllocError>
-    requires { IsIndexed body.now.table.now body.now.index.now }
+    requires { IsReady body.now }
     ensures { IfOk result (λ xs. xs ≡ found ++ spec.used_in_branch body.now.table.now body.now.params.now branch.now) }
 {
     let found = collect(&branch.guard, found, body)?;
@@ -138,7 +138,7 @@ fn collect_cases(
     found: Items<usize>,
     body: &Body<'_>,
 ) -> Result<Items<usize>, AllocError>
-    requires { IsIndexed body.now.table.now body.now.index.now }
+    requires { IsReady body.now }
     ensures { IfOk result (λ xs. xs ≡ found ++ spec.joined (map (spec.used_in_case body.now.table.now body.now.params.now) branches.now)) }
 {
     let mut all = found;
@@ -155,7 +155,7 @@ fn collect_case(
     found: Items<usize>,
     body: &Body<'_>,
 ) -> Result<Items<usize>, AllocError>
-    requires { IsIndexed body.now.table.now body.now.index.now }
+    requires { IsReady body.now }
     ensures { IfOk result (λ xs. xs ≡ found ++ spec.used_in_case body.now.table.now body.now.params.now branch.now) }
 {
     let found = collect_all(branch.labels.as_slice(), found, body)?;
@@ -169,7 +169,7 @@ fn collect_steps(
     found: Items<usize>,
     body: &Body<'_>,
 ) -> Result<Items<usize>, AllocError>
-    requires { IsIndexed body.now.table.now body.now.index.now }
+    requires { IsReady body.now }
     ensures { IfOk result (λ xs. xs ≡ found ++ spec.joined (map (spec.used_in_step body.now.table.now body.now.params.now) steps.now)) }
 {
     let mut all = found;
@@ -185,7 +185,7 @@ fn collect_step(
     found: Items<usize>,
     body: &Body<'_>,
 ) -> Result<Items<usize>, AllocError>
-    requires { IsIndexed body.now.table.now body.now.index.now }
+    requires { IsReady body.now }
     ensures { IfOk result (λ xs. xs ≡ found ++ spec.used_in_step body.now.table.now body.now.params.now step.now) }
 {
     collect_subst(&step.body, found, body)

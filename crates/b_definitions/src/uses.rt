@@ -3,11 +3,12 @@ ghost use Rattle.std.specs.Prelude.{◌≡◌, ◌++◌, map, position, bytes_eq
 ghost use Rattle.b_names.specs.Index as place;
 ghost use Rattle.b_definitions.specs.Uses as spec;
 ghost use Rattle.b_definitions.specs.Tables.{IsIndexed};
+ghost use Rattle.b_definitions.specs.Bodies.{IsReady};
 
 use crate::substitutions::collect_subst;
 use b_ast::machine::{Def, DefBody};
 use b_ast::{After, Bound, Formula, Link};
-use b_names::Index;
+use b_names::{Index, index_of_names};
 use sqlite_items::Items;
 use std::alloc::{AllocError, Global};
 
@@ -17,16 +18,19 @@ pub struct Body<'a> {
     pub table: &'a [Def],
     pub index: &'a Index,
     pub params: &'a [Items<u8>],
+    /// The index of the parameters.
+    pub places: &'a Index,
 }
 
-fn place_of(params: &[Items<u8>], name: &[u8]) -> Option<usize>
-    ensures { result ≡ position (bytes_eq name.now) params.now }
+fn place_of(body: &Body<'_>, name: &[u8]) -> Option<usize>
+    requires { IsReady body.now }
+    ensures { result ≡ position (bytes_eq name.now) body.now.params.now }
 {
-    params.iter().position(|other| name == other.as_slice())
+    body.places.first(name)
 }
 
 fn definition_of(body: &Body<'_>, name: &[u8]) -> Option<usize>
-    requires { IsIndexed body.now.table.now body.now.index.now }
+    requires { IsReady body.now }
     ensures { result ≡ place.place_of body.now.table.now name.now }
 {
     body.index.first(name)
@@ -34,12 +38,12 @@ fn definition_of(body: &Body<'_>, name: &[u8]) -> Option<usize>
 
 /// The definition that a name means, where it is no parameter.
 pub fn meant(body: &Body<'_>, name: &[u8]) -> Option<usize>
-    requires { IsIndexed body.now.table.now body.now.index.now }
+    requires { IsReady body.now }
     ensures { result ≡ spec.meant body.now.table.now body.now.params.now name.now }
 {
     match definition_of(body, name) {
         Some(i) => {
-            if place_of(body.params, name).is_some() {
+            if place_of(body, name).is_some() {
                 None
             } else {
                 Some(i)
@@ -51,7 +55,7 @@ pub fn meant(body: &Body<'_>, name: &[u8]) -> Option<usize>
 
 /// Whether one of some bound names is a definition's.
 pub fn binds(names: &[Bound], body: &Body<'_>) -> bool
-    requires { IsIndexed body.now.table.now body.now.index.now }
+    requires { IsReady body.now }
     ensures { result ≡ spec.binds body.now.table.now names.now }
 {
     for name in names {
@@ -81,7 +85,7 @@ pub fn collect(
     found: Items<usize>,
     body: &Body<'_>,
 ) -> Result<Items<usize>, AllocError>
-    requires { IsIndexed body.now.table.now body.now.index.now }
+    requires { IsReady body.now }
     ensures { IfOk result (λ xs. xs ≡ found ++ spec.used_in body.now.table.now body.now.params.now tree.now) }
 {
     match tree {
@@ -139,7 +143,7 @@ pub fn collect_all(
     found: Items<usize>,
     body: &Body<'_>,
 ) -> Result<Items<usize>, AllocError>
-    requires { IsIndexed body.now.table.now body.now.index.now }
+    requires { IsReady body.now }
     ensures { IfOk result (λ xs. xs ≡ found ++ spec.used_in_all body.now.table.now body.now.params.now trees.now) }
 {
     let mut all = found;
@@ -156,7 +160,7 @@ fn collect_links(
     found: Items<usize>,
     body: &Body<'_>,
 ) -> Result<Items<usize>, AllocError>
-    requires { IsIndexed body.now.table.now body.now.index.now }
+    requires { IsReady body.now }
     ensures { IfOk result (λ xs. xs ≡ found ++ spec.joined (map (spec.used_in_link body.now.table.now body.now.params.now) links.now)) }
 {
     let mut all = found;
@@ -172,7 +176,7 @@ fn collect_link(
     found: Items<usize>,
     body: &Body<'_>,
 ) -> Result<Items<usize>, AllocError>
-    requires { IsIndexed body.now.table.now body.now.index.now }
+    requires { IsReady body.now }
     ensures { IfOk result (λ xs. xs ≡ found ++ spec.used_in_link body.now.table.now body.now.params.now link.now) }
 {
     collect(&link.operand, found, body)
@@ -185,7 +189,7 @@ fn collect_forms(
     found: Items<usize>,
     body: &Body<'_>,
 ) -> Result<Items<usize>, AllocError>
-    requires { IsIndexed body.now.table.now body.now.index.now }
+    requires { IsReady body.now }
     ensures { IfOk result (λ xs. xs ≡ found ++ spec.joined (map (spec.used_in_form body.now.table.now body.now.params.now) forms.now)) }
 {
     let mut all = found;
@@ -202,7 +206,7 @@ fn collect_form(
     found: Items<usize>,
     body: &Body<'_>,
 ) -> Result<Items<usize>, AllocError>
-    requires { IsIndexed body.now.table.now body.now.index.now }
+    requires { IsReady body.now }
     ensures { IfOk result (λ xs. xs ≡ found ++ spec.used_in_form body.now.table.now body.now.params.now form.now) }
 {
     match form {
@@ -222,10 +226,12 @@ fn used_by(
     requires { IsIndexed table.now index.now }
     ensures { IfOk result (λ xs. xs ≡ spec.used_by table.now def.now) }
 {
+    let places = index_of_names(alloc, def.params.as_slice())?;
     let body = Body {
         table,
         index,
         params: def.params.as_slice(),
+        places: &places,
     };
     match &def.body {
         DefBody::Expr(e) => collect(&e.formula, Items::new(alloc), &body),

@@ -86,10 +86,10 @@ steps_from ds f g gs fs q i o e =
     ∙ ap (λ (fs : List Frame). slice_get (steps_at ds f fs) i) (sym q))
 
 -- a text outside has no arguments
-pub none_from : (ds : List Def) (f : Frame) (fs : List Frame) → length fs ≡ 0 → (i : ℕ) → None ≡ slice_get (trees_at ds f fs) i
+pub none_from : (ds : List Def) (f : Frame) (fs : List Frame) → fs ≡ [] → (i : ℕ) → None ≡ slice_get (trees_at ds f fs) i
 none_from ds f [] h zero = refl
 none_from ds f [] h (suc i) = refl
-none_from ds f (g ∷ gs) h i = absurd (omega arith)
+none_from ds f (g ∷ gs) h i = absurd (cc)
 
 -- ---- a formula outside
 

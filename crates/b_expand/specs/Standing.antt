@@ -12,6 +12,8 @@ use Rattle.b_names.specs.Index.{IsTableIndex}
 use Rattle.b_expand.specs.declared.standing.Table.{Table}
 use Rattle.b_expand.specs.declared.standing.Arguments.{Arguments}
 use Rattle.b_expand.specs.declared.standing.Frame.{Frame}
+use Rattle.b_expand.specs.declared.standing.Callers.{Callers, Outside, Within'}
+use Rattle.b_expand.specs.declared.standing.Caller.{Caller}
 use Rattle.b_expand.specs.declared.standing.Standing.{Standing}
 use Rattle.b_expand.specs.Places.{brackets, deeper_place, moved, moved_link, moved_after, raised_place}
 use Rattle.b_expand.specs.Expansion.{Scope}
@@ -24,6 +26,16 @@ IsIndexed ds index = IsTableIndex ds index
 
 abbrev pub IsReady : Table → Type 0
 IsReady t = IsIndexed t.defs.now t.index.now
+
+-- ---- the texts that a text is used in, the nearest first
+
+abbrev pub frames_of : Callers → List Frame
+frames_of Outside = []
+frames_of (Within' p text callers) = text ∷ frames_of callers
+
+-- a text, and those that it is used in
+abbrev pub frames_from : Caller → List Frame
+frames_from c = c.text ∷ frames_of c.callers
 
 -- ---- what names mean
 
@@ -87,13 +99,13 @@ steps_at ds f [] = []
 steps_at ds f (g ∷ gs) = map (λ a. a.steps (params_at ds g.place) (steps_at ds g gs)) (parts_in (means_at ds g.place) f.arguments)
 
 abbrev pub trees_in_scope : Standing → List Formula
-trees_in_scope t = trees_at t.table.defs.now t.here t.callers.now
+trees_in_scope t = trees_at t.table.defs.now t.here (frames_of t.callers)
 
 abbrev pub scope_of : Standing → Scope
 scope_of t = record { round = t.here.round; params = params_in t; trees = trees_in_scope t }
 
 abbrev pub argument_steps_in : Standing → List ℕ
-argument_steps_in t = steps_at t.table.defs.now t.here t.callers.now
+argument_steps_in t = steps_at t.table.defs.now t.here (frames_of t.callers)
 
 -- ---- trees
 

@@ -1,11 +1,14 @@
 -- Where a tree first uses a definition of the table that an index is of.
-use Rattle.std.specs.Prelude.{ℕ, Bool, List, [], ◌∷◌, if◌then◌else◌, Option, Some, None, is_some}
+use Rattle.std.specs.Prelude.{◌≡◌, ℕ, Bool, List, [], ◌∷◌, if◌then◌else◌, Option, Some, None, is_some, Result, Ok, Err}
 use Rattle.b_ast.specs.declared.Formula.{Formula, fold-Formula}
 use Rattle.b_ast.specs.declared.Link.{Link, fold-Link}
 use Rattle.b_ast.specs.declared.After.{After, fold-After}
 use Rattle.b_ast.specs.declared.After.TheOpen.{Formula-F, Link-F, After-F}
+use Rattle.b_ast.specs.declared.FormulaText.{FormulaText}
 use Rattle.b_names.specs.declared.places.Index.{Index}
 use Rattle.b_names.specs.Index.{answer_of}
+use Rattle.b_expand.specs.declared.faults.Unexpanded.{Unexpanded}
+use Rattle.b_expand.specs.declared.faults.Unexpanded.TheVariants.{Refused, Memory}
 
 -- whether a name is a definition's
 abbrev pub is_defined : Index → List ℕ → Bool
@@ -91,3 +94,9 @@ first_byte = fold-Formula ℕ ℕ ℕ after_byte formula_byte link_byte
 abbrev pub place_told : Option ℕ → Formula → ℕ
 place_told (Some at) t = at
 place_told None t = first_byte t
+
+-- a refusal is told at the first use of a definition, or else where the tree begins
+abbrev pub IsToldAt : Index → Formula → Result FormulaText Unexpanded → Type 0
+IsToldAt index t (Ok f) = Unit {0}
+IsToldAt index t (Err (Refused why at)) = at ≡ place_told (first_use index t) t
+IsToldAt index t (Err Memory) = Unit {0}

@@ -1,15 +1,15 @@
 //! The trees that texts become when their definitions are put in. Each part is copied once, where it ends up: an argument
 //! is filled in where its parameter stands, in the text where it stands itself.
-ghost use Rattle.std.specs.Prelude.{◌≡◌, ℕ, ◌+◌, ◌<◌, ◌≤◌, length, map, Some, None, IfOk, IsSome, option_map};
+ghost use Rattle.std.specs.Prelude.{◌≡◌, ℕ, ◌∷◌, ◌+◌, ◌<◌, ◌≤◌, length, map, Some, None, IfOk, IsSome, option_map};
 ghost use Rattle.b_expand.specs.Expansion as spec;
 ghost use Rattle.b_expand.specs.Filling as filling;
 ghost use Rattle.b_expand.specs.Places as places;
-ghost use Rattle.b_expand.specs.Standing.{IsReady, insert_at, means_in, scope_of, called_in, place_in, raise, raise_link, raise_form, tree_in, trees_in, links_in, forms_in, row_in, round_in, used_in, body_in, side_in, form_in};
+ghost use Rattle.b_expand.specs.Standing.{IsReady, frames_of, frames_from, insert_at, means_in, scope_of, called_in, place_in, raise, raise_link, raise_form, tree_in, trees_in, links_in, forms_in, row_in, round_in, used_in, body_in, side_in, form_in};
 
 use crate::copies::{brackets, copied, deeper_place, moved_bounds, raised, raised_place};
 use crate::names::{application, argument_of, called, meaning_of};
 use crate::parts;
-use crate::standing::{Arguments, Frame, Standing};
+use crate::standing::{Arguments, Caller, Callers, Frame, Standing};
 use b_ast::machine::DefBody;
 use b_ast::{After, Bound, Formula, Link, Place};
 use sqlite_items::{Boxed, Items};
@@ -34,6 +34,16 @@ fn round_of_use(text: &Standing<'_>, depth: u64) -> u64
     ensures { result ≡ round_in text.now depth }
 {
     brackets(brackets(text.here.round, depth), 1)
+}
+
+/// A text, as one that a use stands in.
+pub fn caller_of<'a>(text: &Standing<'a>) -> Caller<'a>
+    ensures { frames_from result ≡ text.now.here ∷ frames_of text.now.callers }
+{
+    Caller {
+        text: text.here,
+        callers: text.callers,
+    }
 }
 
 /// The tree that a tree of a text becomes.
@@ -270,7 +280,7 @@ fn fill_use(
 {
     match sqlite_items::at(text.table.defs, i) {
         Some(def) => {
-            let callers = parts::pushed(alloc, text.here, text.callers)?;
+            let caller = caller_of(text);
             let inner = Standing {
                 table: text.table,
                 here: Frame {
@@ -278,7 +288,7 @@ fn fill_use(
                     round: round_of_use(text, depth),
                     arguments,
                 },
-                callers: callers.as_slice(),
+                callers: Callers::Within(&caller),
                 extra: text.extra,
             };
             fill_body(&def.body, alloc, &inner)

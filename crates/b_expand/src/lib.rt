@@ -23,7 +23,7 @@ pub use faults::{ParseFault, ParseKind, Unexpanded, Unfit};
 use parts::no_arguments;
 pub use parts::{expanded_operator, is_comma};
 use settled::is_settled;
-pub use standing::{Arguments, Frame, Standing, Table};
+pub use standing::{Arguments, Caller, Callers, Frame, Standing, Table};
 use std::alloc::{AllocError, Global};
 
 /// The tree that a formula becomes when the definitions of a table are put in, without a look at whether they may be. Each
@@ -60,7 +60,7 @@ fn filled_in(alloc: Global, table: &Table<'_>, formula: &Formula) -> Result<Form
             round: 0,
             arguments: no_arguments(),
         },
-        callers: &[],
+        callers: Callers::Outside,
         extra: None,
     };
     fill(formula, alloc, &text)

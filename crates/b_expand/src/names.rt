@@ -7,7 +7,7 @@ ghost use Rattle.b_expand.specs.Filling as spec;
 ghost use Rattle.b_expand.specs.Standing.{until, IsIndexed, IsReady, params_at, params_in, means_in, insert_at, filling_in, form_in, side_in, called_in, parts_in, scope_of, trees_in_scope, argument_steps_in, tree_in, steps_in, steps_of_forms};
 
 use crate::parts::is_comma;
-use crate::standing::{Arguments, Frame, Standing, Table};
+use crate::standing::{Arguments, Callers, Standing, Table};
 use b_ast::{After, Formula, Link};
 use sqlite_items::Items;
 
@@ -210,20 +210,20 @@ fn argument_from<'a>(
     ensures ready { IfSome result (λ r. IsReady r.1.table) }
     ensures extra { IfSome result (λ r. r.1.extra ≡ Some extra) }
 {
-    match text.callers.split_first() {
-        Some((caller, callers)) => match argument_at(&text.here.arguments, place) {
+    match text.callers {
+        Callers::Within(caller) => match argument_at(&text.here.arguments, place) {
             Some(tree) => {
                 let standing = Standing {
                     table: text.table,
-                    here: *caller,
-                    callers,
+                    here: caller.text,
+                    callers: caller.callers,
                     extra: Some(extra),
                 };
                 Some((tree, standing))
             }
             None => None,
         },
-        None => None,
+        Callers::Outside => None,
     }
 }
 

@@ -6,7 +6,7 @@ ghost use Rattle.b_expand.specs.Places as places;
 ghost use Rattle.b_expand.specs.Standing.{parts_in};
 
 use crate::copies::raised_place;
-use crate::standing::{Arguments, Frame};
+use crate::standing::Arguments;
 use b_ast::{After, Formula, Operator, Place};
 use sqlite_items::{Boxed, Items};
 use std::alloc::{AllocError, Global};
@@ -63,22 +63,6 @@ pub fn no_arguments<'a>() -> Arguments<'a>
         first: None,
         others: &[],
     }
-}
-
-/// The texts with one more before them.
-pub fn pushed<'a>(
-    alloc: Global,
-    first: Frame<'a>,
-    rest: &[Frame<'a>],
-) -> Result<Items<Frame<'a>>, AllocError>
-    ensures { IfOk result (λ fs. fs ≡ first.entry ∷ rest.now) }
-{
-    let mut frames = Items::new(alloc);
-    frames.push(first)?;
-    for frame in rest {
-        frames.push(*frame)?;
-    }
-    Ok(frames)
 }
 
 /// A use with the forms after its arguments.

@@ -31,13 +31,32 @@ pub struct Frame<'a> {
     pub arguments: Arguments<'a>,
 }
 
+/// The texts that a use stands in.
+#[cycle(callers)]
+#[derive(Clone, Copy)]
+pub enum Callers<'a> {
+    /// None: the formula itself.
+    Outside,
+    /// The nearest one, and those that it is used in.
+    Within(&'a Caller<'a>),
+}
+
+/// A text that a use stands in, with those that it is used in itself. It stands on the stack of the call that fills the use
+/// in, so nothing is copied at a use.
+#[cycle(callers)]
+#[derive(Clone, Copy)]
+pub struct Caller<'a> {
+    pub text: Frame<'a>,
+    pub callers: Callers<'a>,
+}
+
 /// A text with those that it is used in.
 #[derive(Clone, Copy)]
 pub struct Standing<'a> {
     pub table: Table<'a>,
     pub here: Frame<'a>,
-    /// The texts that the use stands in, the nearest first.
-    pub callers: &'a [Frame<'a>],
+    /// The texts that the use stands in.
+    pub callers: Callers<'a>,
     /// How many brackets are added to all places, if any are: those of the parameters that the text stands for.
     pub extra: Option<u64>,
 }

@@ -7,7 +7,7 @@ ghost use Rattle.b_grammar.specs.Descent as descent;
 ghost use Rattle.b_read_expr.specs.Grouping as spec;
 
 use crate::nodes::node;
-use crate::steps::priority;
+use b_ast::priorities::priority;
 use b_ast::{Formula, Link, Operator, Place};
 use sqlite_items::{Boxed, Items};
 use std::alloc::{AllocError, Global};

@@ -10,7 +10,7 @@ use crate::filler::fill_subst;
 use crate::tables::Substitutions;
 use b_ast::machine::Subst;
 use b_expand::parts::no_arguments;
-use b_expand::{Frame, Standing, Table};
+use b_expand::{Callers, Frame, Standing, Table};
 use std::alloc::{AllocError, Global};
 
 // The substitution with the definitions of a table put in.
@@ -25,7 +25,7 @@ fn put_in(alloc: Global, table: &Table<'_>, subst: &Subst) -> Result<Subst, Allo
             round: 0,
             arguments: no_arguments(),
         },
-        callers: &[],
+        callers: Callers::Outside,
         extra: None,
     };
     fill_subst(subst, alloc, &text)

@@ -10,9 +10,9 @@ ghost use Rattle.b_substitutions.specs.Filled.{IsLevel};
 
 use b_ast::machine::{Branch, CaseBranch, DefBody, Guard, Step, Subst};
 use b_ast::{Bound, Formula, Place};
-use b_expand::expander::fill;
+use b_expand::expander::{caller_of, fill};
 use b_expand::names::{arguments_of, definition_of, place_of};
-use b_expand::{Arguments, Frame, Standing, brackets, deeper_place, parts};
+use b_expand::{Arguments, Callers, Frame, Standing, brackets, deeper_place, parts};
 use sqlite_items::{Boxed, Items};
 use std::alloc::{AllocError, Global};
 
@@ -638,7 +638,7 @@ fn fill_called(
 {
     match sqlite_items::at(text.table.defs, i) {
         Some(def) => {
-            let callers = parts::pushed(alloc, text.here, text.callers)?;
+            let caller = caller_of(text);
             let inner = Standing {
                 table: text.table,
                 here: Frame {
@@ -646,7 +646,7 @@ fn fill_called(
                     round: round_of_use(text, depth),
                     arguments,
                 },
-                callers: callers.as_slice(),
+                callers: Callers::Within(&caller),
                 extra: None,
             };
             fill_body(&def.body, alloc, &inner)

@@ -16,13 +16,16 @@ use Rattle.b_expand.specs.Answers.{Answers, judged, sorted_text, text_of}
 use Rattle.b_expand.specs.declared.faults.Unfit.{Unfit}
 use Rattle.b_expand.specs.declared.faults.Unfit.TheVariants.{TooDeep, TooWide}
 use Rattle.b_expand.specs.declared.faults.Unexpanded.{Unexpanded}
+use Rattle.b_expand.specs.declared.faults.Unexpanded.TheVariants.{Refused, Memory}
+use Rattle.b_expand.specs.Using.{IsToldAt}
+use Rattle.b_names.specs.declared.places.Index.{Index}
 use Rattle.b_summaries.specs.declared.summary.Facts.{Facts}
 use Rattle.b_summaries.specs.declared.summary.Summary.{Summary}
 use Rattle.b_summaries.specs.declared.summary.Told.{Told}
 use Rattle.b_summaries.specs.Sizes.{counted, size_of, known}
 use Rattle.b_summaries.specs.Values.{facts_from, summary_value}
 use Rattle.b_summaries.specs.Summaries.{summary, meanings}
-use Rattle.b_summaries.specs.Standing.{verdict_of, text_by, judged_by}
+use Rattle.b_summaries.specs.Standing.{verdict_of, text_by, judged_by, IsNoRefusal}
 use Rattle.b_summaries.proofs.Naming.{take_all}
 use Rattle.b_summaries.proofs.Telling.{formula_says}
 
@@ -96,3 +99,9 @@ pub summary_known : (ds table : List Def) → table ≡ ds → (t : Formula) (ps
     → (facts : Option Facts) → facts ≡ option_and_then (λ u. summary_value u 0 []) u → facts ≡ known (expansion ds t)
 summary_known ds table same t ps p before now k many u h facts e =
     e ∙ (ap (option_and_then (λ u. summary_value u 0 [])) (h ∙ summary_there ds table same t ps p (length now) (ap length k ∙ many)) ∙ formula_says ds t)
+
+-- what is no refusal is told nowhere
+pub told_anyway : (index : Index) (t : Formula) (r : Result FormulaText Unexpanded) → IsNoRefusal r → IsToldAt index t r
+told_anyway index t (Ok f) h = tt
+told_anyway index t (Err (Refused why at)) h = absurd h
+told_anyway index t (Err Memory) h = tt

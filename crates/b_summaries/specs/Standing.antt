@@ -117,7 +117,8 @@ abbrev pub judged_by : Result Sort Unfit → Option Formula → Result FormulaTe
 judged_by (Err why) o = Err why
 judged_by (Ok s) o = text_by s o
 
--- a refusal for this reason, unless memory ran out
-abbrev pub IsRefusal : Unfit → Unexpanded → Type 0
-IsRefusal why (Refused w at) = w ≡ why
-IsRefusal why Memory = Unit {0}
+-- a text, unless memory ran out
+abbrev pub IsNoRefusal : Result FormulaText Unexpanded → Type 0
+IsNoRefusal (Ok f) = Unit {0}
+IsNoRefusal (Err (Refused why at)) = ⊥
+IsNoRefusal (Err Memory) = Unit {0}

@@ -4,9 +4,10 @@ ghost use Rattle.b_expand.specs.Answers as answers;
 ghost use Rattle.b_expand.specs.Expansion.{expansion};
 ghost use Rattle.b_expand.specs.Filling.{filled};
 ghost use Rattle.b_expand.specs.Places.{deepest};
+ghost use Rattle.b_expand.specs.Using.{IsToldAt};
 ghost use Rattle.b_summaries.specs.Sizes.{known};
 ghost use Rattle.b_summaries.specs.Made.{IsMade};
-ghost use Rattle.b_summaries.specs.Standing.{IsIndexed, limited, depth_or_none, verdict_of, text_by, IsRefusal};
+ghost use Rattle.b_summaries.specs.Standing.{IsIndexed, limited, depth_or_none, verdict_of, text_by, IsNoRefusal};
 
 use crate::summary::{Facts, Told};
 use crate::tables::{facts_of, told_all};
@@ -85,7 +86,8 @@ pub fn expand(
     formula: Formula,
 ) -> Result<FormulaText, Unexpanded>
     requires { IsMade defs.now }
-    ensures { answers.AnswersFormula defs.now.table.now.defs formula result }
+    ensures answers { answers.AnswersFormula defs.now.table.now.defs formula result }
+    ensures place { IsToldAt defs.now.index.definitions formula result }
 {
     match measured(alloc, defs, &formula) {
         Ok(facts) => match verdict(facts) {
@@ -135,7 +137,8 @@ fn built(
     requires made { IsMade defs.now }
     requires there { IsSome (expansion defs.now.table.now.defs formula) }
     requires shallow { deepest (filled defs.now.table.now.defs formula) ≤ 100 }
-    ensures { answers.Answers (text_by sort (expansion defs.now.table.now.defs formula)) result }
+    ensures answers { answers.Answers (text_by sort (expansion defs.now.table.now.defs formula)) result }
+    ensures whole { IsNoRefusal result }
 {
     let table = Table {
         defs: defs.table.defs.as_slice(),

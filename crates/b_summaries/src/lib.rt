@@ -6,7 +6,6 @@ pub mod gathering;
 mod lists;
 pub mod making;
 pub mod sizes;
-mod sorts;
 mod summary;
 pub mod tables;
 pub mod texts;

@@ -178,6 +178,7 @@ pub fn joined(some: Option<Parts>, more: Option<Parts>) -> Result<Option<Parts>,
 }
 
 /// With one more tree, which has to be of a sort.
+#[inline(never)]
 pub fn with_part(
     wanted: Sort,
     tree: Option<Summary>,
@@ -203,6 +204,7 @@ pub fn formed(sort: Sort, parts: Option<Parts>) -> Option<Summary>
 }
 
 /// A tree of a sort round one of a wanted sort.
+#[inline(never)]
 pub fn around(
     alloc: Global,
     depth: u64,

@@ -4,9 +4,9 @@ ghost use Rattle.b_ast.specs.Sorts as sorts;
 ghost use Rattle.b_summaries.specs.Making as making;
 ghost use Rattle.b_summaries.specs.Sizes as spec;
 
-use crate::sorts::fits;
 use crate::summary::{Asked, Share, Size};
 use b_ast::Sort;
+use b_ast::sorts::fits;
 use b_expand::brackets;
 
 /// The most nodes that are counted: one more than a text may have.

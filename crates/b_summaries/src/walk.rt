@@ -1,17 +1,20 @@
 //! The summary of a text, in one walk through it.
-ghost use Rattle.std.specs.Prelude.{◌≡◌, [], ◌∷◌, ◌++◌, ◌<◌, length, map, Some, IfOk, IsSome, option_map, option_and_then};
+ghost use Rattle.std.specs.Prelude.{◌≡◌, [], ◌∷◌, ◌++◌, ◌<◌, if◌then◌else◌, length, map, Some, None, IfOk, IsSome, option_map, option_and_then};
+ghost use Rattle.b_ast.specs.declared.Sort.TheVariants as sorts;
 ghost use Rattle.b_expand.specs.Expansion.{both};
+ghost use Rattle.b_expand.specs.Places as places;
+ghost use Rattle.b_summaries.specs.Making.{place_size};
 ghost use Rattle.b_summaries.specs.Summaries as spec;
 ghost use Rattle.b_summaries.specs.Standing.{IsReady, meaning_at, means_in, reading_in, form_in, side_in, summary_in, row_in, arguments_in, operands_in, used_at};
 
 use crate::lists::{before, pushed};
 use crate::making::{around, formed, leaf, parameter, start, start_row, with_part, with_place};
-use crate::sorts::{argument_sort, body_sort, call_sort, chain_sort, operand_sort};
 use crate::summary::{Parts, Summary};
 use crate::texts::{
     Text, application, called, may_bind_all, meaning_of, names_depth, place_of, several, use_of,
 };
-use b_ast::{After, Formula, Link, Place, Sort};
+use b_ast::sorts::{argument_sort, body_sort, call_sort, chain_sort, operand_sort};
+use b_ast::{After, Bound, Formula, Link, Place, Sort};
 use b_expand::expanded_operator;
 use sqlite_items::Items;
 use std::alloc::{AllocError, Global};
@@ -28,94 +31,189 @@ pub fn walk(tree: &Formula, alloc: Global, text: &Text<'_>) -> Result<Option<Sum
         Formula::Name(at, x) => walk_name(*at, x.as_slice(), alloc, text),
         Formula::Old(at, _) => Ok(Some(leaf(alloc, at.depth))),
         Formula::Constant(at, _) => Ok(Some(leaf(alloc, at.depth))),
-        Formula::Negative(at, e) => {
-            let e = walk(e.get(), alloc, text)?;
-            around(alloc, at.depth, Sort::Expression, Sort::Expression, e)
-        }
-        Formula::Chain(e, links) => {
-            let e = walk(e.get(), alloc, text)?;
-            walk_chain(links.as_slice(), e, alloc, text)
-        }
+        Formula::Negative(at, e) => walk_around(
+            e.get(),
+            at.depth,
+            Sort::Expression,
+            Sort::Expression,
+            alloc,
+            text,
+        ),
+        Formula::Chain(e, links) => walk_joined(e.get(), links.as_slice(), alloc, text),
         Formula::Row(e, forms) => walk_row(e.get(), forms.as_slice(), alloc, text),
-        Formula::Call(at, f, es) => {
-            let parts = walk_all(
-                es.as_slice(),
-                argument_sort(*f),
-                start(alloc, at.depth),
-                alloc,
-                text,
-            )?;
-            Ok(formed(call_sort(*f), parts))
-        }
-        Formula::Set(at, es) => {
-            let parts = walk_all(
-                es.as_slice(),
-                Sort::Expression,
-                start(alloc, at.depth),
-                alloc,
-                text,
-            )?;
-            Ok(formed(Sort::Expression, parts))
-        }
-        Formula::Sequence(at, es) => {
-            let parts = walk_all(
-                es.as_slice(),
-                Sort::Expression,
-                start(alloc, at.depth),
-                alloc,
-                text,
-            )?;
-            Ok(formed(Sort::Expression, parts))
-        }
-        Formula::Comprehension(at, xs, p) => {
-            let xs = xs.as_slice();
-            if !may_bind_all(text, xs) {
-                return Ok(None);
-            }
-            let p = walk(p.get(), alloc, text)?;
-            around(
-                alloc,
-                names_depth(*at, xs),
-                Sort::Expression,
-                Sort::Predicate,
-                p,
-            )
-        }
-        Formula::Quantified(at, q, xs, p) => {
-            let xs = xs.as_slice();
-            if !may_bind_all(text, xs) {
-                return Ok(None);
-            }
-            let p = walk(p.get(), alloc, text)?;
-            around(
-                alloc,
-                names_depth(*at, xs),
-                Sort::Predicate,
-                body_sort(*q),
-                p,
-            )
-        }
-        Formula::Collected(at, _, xs, p, e) => {
-            let xs = xs.as_slice();
-            if !may_bind_all(text, xs) {
-                return Ok(None);
-            }
-            let p = walk(p.get(), alloc, text)?;
-            let parts = with_part(Sort::Predicate, p, start(alloc, names_depth(*at, xs)))?;
-            let e = walk(e.get(), alloc, text)?;
-            let parts = with_part(Sort::Expression, e, parts)?;
-            Ok(formed(Sort::Expression, parts))
-        }
-        Formula::If(at, p, e, f) => {
-            let p = walk(p.get(), alloc, text)?;
-            let parts = with_part(Sort::Predicate, p, start(alloc, at.depth))?;
-            let e = walk(e.get(), alloc, text)?;
-            let parts = with_part(Sort::Expression, e, parts)?;
-            let f = walk(f.get(), alloc, text)?;
-            let parts = with_part(Sort::Expression, f, parts)?;
-            Ok(formed(Sort::Expression, parts))
-        }
+        Formula::Call(at, f, es) => walk_listed(
+            es.as_slice(),
+            at.depth,
+            call_sort(*f),
+            argument_sort(*f),
+            alloc,
+            text,
+        ),
+        Formula::Set(at, es) => walk_listed(
+            es.as_slice(),
+            at.depth,
+            Sort::Expression,
+            Sort::Expression,
+            alloc,
+            text,
+        ),
+        Formula::Sequence(at, es) => walk_listed(
+            es.as_slice(),
+            at.depth,
+            Sort::Expression,
+            Sort::Expression,
+            alloc,
+            text,
+        ),
+        Formula::Comprehension(at, xs, p) => walk_bound(
+            p.get(),
+            *at,
+            xs.as_slice(),
+            Sort::Expression,
+            Sort::Predicate,
+            alloc,
+            text,
+        ),
+        Formula::Quantified(at, q, xs, p) => walk_bound(
+            p.get(),
+            *at,
+            xs.as_slice(),
+            Sort::Predicate,
+            body_sort(*q),
+            alloc,
+            text,
+        ),
+        Formula::Collected(at, _, xs, p, e) => walk_collected(
+            p.get(),
+            e.get(),
+            *at,
+            xs.as_slice(),
+            alloc,
+            text,
+        ),
+        Formula::If(at, p, e, f) => walk_if(p.get(), e.get(), f.get(), at.depth, alloc, text),
     }
+}
+
+// A tree of a sort round one of a wanted sort. Here and below: a function of its own, so that what it keeps takes room on
+// the stack only where it stands round a tree.
+#[inline(never)]
+#[cycle(walk)]
+fn walk_around(
+    tree: &Formula,
+    depth: u64,
+    sort: Sort,
+    wanted: Sort,
+    alloc: Global,
+    text: &Text<'_>,
+) -> Result<Option<Summary>, AllocError>
+    requires { IsReady text.now }
+    ensures { IfOk result (λ o. o ≡ spec.formed sort (spec.with_part wanted (summary_in text.now tree.now) (spec.start (place_size 1 depth)))) }
+{
+    let tree = walk(tree, alloc, text)?;
+    around(alloc, depth, sort, wanted, tree)
+}
+
+// A chain.
+#[inline(never)]
+#[cycle(walk)]
+fn walk_joined(
+    first: &Formula,
+    links: &[Link],
+    alloc: Global,
+    text: &Text<'_>,
+) -> Result<Option<Summary>, AllocError>
+    requires { IsReady text.now }
+    ensures { IfOk result (λ o. o ≡ spec.chain (summary_in text.now first.now) (map (side_in text.now) links.now)) }
+{
+    let first = walk(first, alloc, text)?;
+    walk_chain(links, first, alloc, text)
+}
+
+// A tree of a sort with parts of a wanted sort.
+#[inline(never)]
+#[cycle(walk)]
+fn walk_listed(
+    trees: &[Formula],
+    depth: u64,
+    sort: Sort,
+    wanted: Sort,
+    alloc: Global,
+    text: &Text<'_>,
+) -> Result<Option<Summary>, AllocError>
+    requires { IsReady text.now }
+    ensures { IfOk result (λ o. o ≡ spec.formed sort (spec.with_all wanted (spec.trees (map (reading_in text.now) trees.now)) (spec.start (place_size 1 depth)))) }
+{
+    let parts = walk_all(trees, wanted, start(alloc, depth), alloc, text)?;
+    Ok(formed(sort, parts))
+}
+
+// A tree of a sort that binds names over one of a wanted sort.
+#[inline(never)]
+#[cycle(walk)]
+fn walk_bound(
+    tree: &Formula,
+    at: Place,
+    names: &[Bound],
+    sort: Sort,
+    wanted: Sort,
+    alloc: Global,
+    text: &Text<'_>,
+) -> Result<Option<Summary>, AllocError>
+    requires { IsReady text.now }
+    ensures { IfOk result (λ o. o ≡ (if spec.may_bind_all text.now.table.now text.now.params.now names.now then spec.formed sort (spec.with_part wanted (summary_in text.now tree.now) (spec.start (place_size 1 (places.names_depth at names.now)))) else None)) }
+{
+    if may_bind_all(text, names) {
+        walk_around(tree, names_depth(at, names), sort, wanted, alloc, text)
+    } else {
+        Ok(None)
+    }
+}
+
+// An expression that binds names over a predicate and an expression.
+#[inline(never)]
+#[cycle(walk)]
+fn walk_collected(
+    test: &Formula,
+    tree: &Formula,
+    at: Place,
+    names: &[Bound],
+    alloc: Global,
+    text: &Text<'_>,
+) -> Result<Option<Summary>, AllocError>
+    requires { IsReady text.now }
+    ensures { IfOk result (λ o. o ≡ (if spec.may_bind_all text.now.table.now text.now.params.now names.now then spec.formed sorts.Expression (spec.with_part sorts.Expression (summary_in text.now tree.now) (spec.with_part sorts.Predicate (summary_in text.now test.now) (spec.start (place_size 1 (places.names_depth at names.now))))) else None)) }
+{
+    if !may_bind_all(text, names) {
+        return Ok(None);
+    }
+    let test = walk(test, alloc, text)?;
+    let parts = with_part(Sort::Predicate, test, start(alloc, names_depth(at, names)))?;
+    let tree = walk(tree, alloc, text)?;
+    let parts = with_part(Sort::Expression, tree, parts)?;
+    Ok(formed(Sort::Expression, parts))
+}
+
+#[inline(never)]
+#[cycle(walk)]
+fn walk_if(
+    test: &Formula,
+    tree: &Formula,
+    other: &Formula,
+    depth: u64,
+    alloc: Global,
+    text: &Text<'_>,
+) -> Result<Option<Summary>, AllocError>
+    requires { IsReady text.now }
+    ensures { IfOk result (λ o. o ≡ spec.formed sorts.Expression (spec.with_part sorts.Expression (summary_in text.now other.now) (spec.with_part sorts.Expression (summary_in text.now tree.now) (spec.with_part sorts.Predicate (summary_in text.now test.now) (spec.start (place_size 1 depth)))))) }
+{
+    let test = walk(test, alloc, text)?;
+    let parts = with_part(Sort::Predicate, test, start(alloc, depth))?;
+    let tree = walk(tree, alloc, text)?;
+    let parts = with_part(Sort::Expression, tree, parts)?;
+    let other = walk(other, alloc, text)?;
+    let parts = with_part(Sort::Expression, other, parts)?;
+    Ok(formed(Sort::Expression, parts))
 }
 
 // With some more trees, each of which has to be of a sort.
@@ -140,6 +238,7 @@ fn walk_all(
 }
 
 // A chain, from its first operand.
+#[inline(never)]
 #[cycle(walk)]
 fn walk_chain(
     links: &[Link],
@@ -235,6 +334,7 @@ fn walk_form(
     }
 }
 
+#[inline(never)]
 fn walk_name(
     at: Place,
     name: &[u8],
@@ -256,6 +356,7 @@ fn walk_name(
     }
 }
 
+#[inline(never)]
 #[cycle(walk)]
 fn walk_row(
     head: &Formula,

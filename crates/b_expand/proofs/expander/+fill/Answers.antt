@@ -3,7 +3,7 @@ use Rattle.std.specs.Prelude.{IfOk}
 use Rattle.b_expand.specs.Places.{raised_place, raised, moved}
 use Rattle.b_expand.specs.Expansion.{tree_of}
 use Rattle.b_expand.specs.Filling.{Part, Filling, Form, Side, named, argument_steps, insert_of}
-use Rattle.b_expand.specs.Standing.{insert_at, means_in, params_in, argument_steps_in, scope_of, filling_in, form_in, side_in, parts_in, body_of, round_in, tree_in, raise, raise_link, raise_form, used_in, steps_in, steps_of_all, steps_of_link, steps_of_links, steps_of_form, steps_of_forms, steps_of_use, means_at, params_at, steps_at}
+use Rattle.b_expand.specs.Standing.{frames_of, frames_from, insert_at, means_in, params_in, argument_steps_in, scope_of, filling_in, form_in, side_in, parts_in, body_of, round_in, tree_in, raise, raise_link, raise_form, used_in, steps_in, steps_of_all, steps_of_link, steps_of_links, steps_of_form, steps_of_forms, steps_of_use, means_at, params_at, steps_at}
 use Rattle.b_expand.proofs.Indexing.{insert_unknown}
 use Rattle.b_expand.proofs.Texts.{called_row, plain_row, raised_named, named_use, ok_along, next_part, part_of_total, link_of_total, form_of_total, use_steps, use_tree}
 use Rattle.b_expand.proofs.expander.+fill.Goals as goal
@@ -89,16 +89,16 @@ pub fill_use-fill_body-requires : goal.fill_use-fill_body-requires
 fill_use-fill_body-requires t c =
     let k : steps_of_use c.args.text.now c.args.i c.args.arguments
     ≡ (insert_of (means_at c.args.text.now.table.defs.now c.args.i) (params_at c.args.text.now.table.defs.now c.args.i) c.in-Some.def.now.body).steps
-    (steps_at c.args.text.now.table.defs.now (record { place = c.args.i; round = c.round_of_use.result; arguments = c.args.arguments }) c.as_slice.result.now) =
-    use_steps c.args.text.now.table.defs.now c.args.text.now.here (record { place = c.args.i; round = c.round_of_use.result; arguments = c.args.arguments }) c.args.text.now.callers.now c.as_slice.result.now c.args.i c.in-Some.def.now
-    c.in-Some.ensures c.requires.known (c.as_slice.ensures ∙ c.in_ok-callers-in-Some.ensures) in
+    (steps_at c.args.text.now.table.defs.now (record { place = c.args.i; round = c.round_of_use.result; arguments = c.args.arguments }) (frames_from c.caller_of-caller.result)) =
+    use_steps c.args.text.now.table.defs.now c.args.text.now.here (record { place = c.args.i; round = c.round_of_use.result; arguments = c.args.arguments }) (frames_of c.args.text.now.callers) (frames_from c.caller_of-caller.result) c.args.i c.in-Some.def.now
+    c.in-Some.ensures c.requires.known c.caller_of-caller.ensures in
     (omega arith, c.requires.ready)
 
-pub fill_use-returns-in_ok-callers-in-Some : goal.fill_use-returns-in_ok-callers-in-Some
-fill_use-returns-in_ok-callers-in-Some t c =
+pub fill_use-returns-in-Some : goal.fill_use-returns-in-Some
+fill_use-returns-in-Some t c =
     ok_along c.fill_body.result _ (raise c.args.text.now (used_in c.args.text.now c.args.i c.args.depth c.args.arguments))
     (ap (raise c.args.text.now)
-    (use_tree c.args.text.now.table.defs.now c.args.text.now.here _ c.args.text.now.callers.now c.as_slice.result.now c.args.i c.in-Some.def.now c.in-Some.ensures c.requires.known (c.as_slice.ensures ∙ c.in_ok-callers-in-Some.ensures)
+    (use_tree c.args.text.now.table.defs.now c.args.text.now.here (record { place = c.args.i; round = c.round_of_use.result; arguments = c.args.arguments }) (frames_of c.args.text.now.callers) (frames_from c.caller_of-caller.result) c.args.i c.in-Some.def.now c.in-Some.ensures c.requires.known c.caller_of-caller.ensures
     (round_in c.args.text.now c.args.depth) c.round_of_use.result c.round_of_use.ensures)) c.fill_body.ensures
 
 pub fill_use-returns-in-None : goal.fill_use-returns-in-None

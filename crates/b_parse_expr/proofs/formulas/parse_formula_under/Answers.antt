@@ -13,7 +13,7 @@ returns-in-Ok c =
     c.in-Ok.tree
     c.in-Ok.ensures
     c.expand-answer.result
-    c.expand-answer.ensures
+    c.expand-answer.ensures.answers
     c.answer_of.result
     c.answer_of.ensures
 

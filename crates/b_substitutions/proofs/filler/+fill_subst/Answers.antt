@@ -1,5 +1,5 @@
 use Rattle.std.proofs.Common.{◌≤◌, ◌∙◌, arith}
-use Rattle.b_expand.specs.Standing.{means_in, scope_of}
+use Rattle.b_expand.specs.Standing.{frames_of, frames_from, means_in, scope_of}
 use Rattle.b_substitutions.specs.Filling.{filled_subst, filled_branch, filled_case, filled_step}
 use Rattle.b_substitutions.specs.Filled.{uses_in, use_at, used_by, steps_of, total, steps_of_branch, total_of_branches, steps_of_case, total_of_cases, steps_of_step, total_of_steps}
 use Rattle.b_substitutions.proofs.Filling.{next_part, part_of_sum, use_tree, subst_along}
@@ -49,8 +49,8 @@ fill_steps-fill_step-requires t c =
 
 -- ---- uses
 
-pub fill_called-returns-in_ok-callers-in-Some : goal.fill_called-returns-in_ok-callers-in-Some
-fill_called-returns-in_ok-callers-in-Some t c =
+pub fill_called-returns-in-Some : goal.fill_called-returns-in-Some
+fill_called-returns-in-Some t c =
     subst_along c.fill_body.result _ (used_by c.args.text.now c.args.depth (use_at c.args.text.now c.args.i) c.args.arguments)
-    (use_tree c.args.text.now.table.defs.now c.args.text.now.here _ c.args.text.now.callers.now c.as_slice.result.now c.args.i c.in-Some.def.now c.in-Some.ensures (c.as_slice.ensures ∙ c.in_ok-callers-in-Some.ensures)
+    (use_tree c.args.text.now.table.defs.now c.args.text.now.here (record { place = c.args.i; round = c.round_of_use.result; arguments = c.args.arguments }) (frames_of c.args.text.now.callers) (frames_from c.caller_of-caller.result) c.args.i c.in-Some.def.now c.in-Some.ensures c.caller_of-caller.ensures
     c.args.depth c.round_of_use.result c.round_of_use.ensures) c.fill_body.ensures

@@ -22,6 +22,24 @@ invariant-walk_operands-loop-link l = joined l.found (map (λ k. k.operand) (map
 abbrev pub decreases-walk : goal.decreases-walk
 decreases-walk l = 8 * node_total l.tree.now + 1
 
+abbrev pub decreases-walk_around : goal.decreases-walk_around
+decreases-walk_around l = 8 * node_total l.tree.now + 2
+
+abbrev pub decreases-walk_joined : goal.decreases-walk_joined
+decreases-walk_joined l = 8 * (node_total l.first.now + sum (map nodes_of_link l.links.now)) + 5
+
+abbrev pub decreases-walk_listed : goal.decreases-walk_listed
+decreases-walk_listed l = 8 * sum (map node_total l.trees.now) + 3
+
+abbrev pub decreases-walk_bound : goal.decreases-walk_bound
+decreases-walk_bound l = 8 * node_total l.tree.now + 3
+
+abbrev pub decreases-walk_collected : goal.decreases-walk_collected
+decreases-walk_collected l = 8 * (node_total l.test.now + node_total l.tree.now) + 2
+
+abbrev pub decreases-walk_if : goal.decreases-walk_if
+decreases-walk_if l = 8 * (node_total l.test.now + (node_total l.tree.now + node_total l.other.now)) + 2
+
 abbrev pub decreases-walk_all : goal.decreases-walk_all
 decreases-walk_all l = 8 * sum (map node_total l.trees.now) + 2
 

@@ -1,0 +1,2 @@
+-- Lemmas of clauses.
+pub mod FromBehind
