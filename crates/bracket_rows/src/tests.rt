@@ -1,6 +1,9 @@
+use b_ast::machine::DefTable;
 use b_grammar::symbols::lexemes;
 use b_lex::lex;
+use b_parse_expr::parse_formula;
 use b_read_expr::tree_of;
+use sqlite_items::Items;
 use std::alloc::{AllocError, Global};
 use std::test::Fail;
 use std::thread::Builder;
@@ -78,6 +81,46 @@ fn brackets_in_a_small_thread(rt: HostRuntime) -> Result<(), Fail> {
             let (open, _, _) = nest;
             assert!(rt; read, "{count} brackets of {open}");
         }
+    }
+    Ok(())
+}
+
+// Whether the text is a formula without definitions.
+fn is_formula(alloc: Global, text: &[u8]) -> bool {
+    let defs = DefTable {
+        defs: Items::new(alloc),
+    };
+    match lex(alloc, text) {
+        Ok(tokens) => parse_formula(alloc, text, tokens.as_slice(), defs).is_ok(),
+        Err(_) => false,
+    }
+}
+
+fn is_nest_formula(alloc: Global, nest: Nest) -> bool {
+    match nested(alloc, nest, 99) {
+        Ok(text) => is_formula(alloc, text.as_slice()),
+        Err(_) => false,
+    }
+}
+
+// What opens a bracket under an operator of each priority, behind or before it.
+const FULL: [Nest; 2] = [
+    ("bool(1=1=>1=1&1=1<=>{1}={1}<->1|->1..1+1*1**", "1", ")"),
+    ("bool(", "1", "**1*1+1..1|->1<->1=1<=>1=1&1=1=>1=1)"),
+];
+
+// A formula is judged and put together in a thread with a stack of 2 MB, also where 99 brackets are open at one place and
+// each stands under operators of all priorities.
+#[test]
+fn formulas_in_a_small_thread(rt: HostRuntime) -> Result<(), Fail> {
+    let alloc = rt.alloc();
+    for nest in FULL {
+        let child = Builder::new()
+            .stack_size(2 << 20)
+            .spawn(&rt, move || is_nest_formula(alloc, nest))?;
+        let read = child.join(&rt);
+        let (open, _, _) = nest;
+        assert!(rt; read, "99 brackets of {open}");
     }
     Ok(())
 }

@@ -12,3 +12,4 @@ pub mod Spared
 pub mod Leads
 pub mod Keeping
 pub mod Listing
+pub mod Quits

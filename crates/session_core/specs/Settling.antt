@@ -1,5 +1,5 @@
 -- How a session settles at what comes next: what it holds then, where it is, and what it needs.
-use Rattle.std.specs.Prelude.{◌≡◌, ◌≤◌, ℕ, Bool, true, false, List, ◌++◌, length, Some, codes}
+use Rattle.std.specs.Prelude.{◌≡◌, ◌≤◌, ℕ, Bool, true, false, List, ◌++◌, length, Some, codes, if◌then◌else◌}
 use Rattle.std.specs.Fmt.{decimal}
 use Rattle.b_values.specs.declared.types.Face.{Face}
 use Rattle.session_words.specs.Texts.{line}
@@ -16,7 +16,9 @@ use Rattle.session_core.specs.declared.stages.Need.TheVariants as needs
 use Rattle.session_core.specs.declared.stages.Stage.{Stage}
 use Rattle.session_core.specs.declared.stages.Next.{Next}
 use Rattle.session_core.specs.declared.stages.Next.TheVariants.{Goes, Ends, Refuses, Silent, Moves, Quits}
-use Rattle.session_core.specs.Moving.{needed, changed_held}
+use Rattle.session_core.specs.Moving.{needed, changed_held, is_too_long}
+use Rattle.session_words.specs.Commands.{command_of}
+use Rattle.animator.specs.History.{quits_by}
 
 -- the lines of a reply that tells a state alone
 abbrev pub moved_text : ℕ → List ℕ
@@ -54,3 +56,21 @@ IsShort held _ = ⊥
 abbrev pub is_marked : At → Bool
 is_marked Marked = true
 is_marked at = false
+
+-- the reply to `quit` is given
+abbrev pub quits_at : At → Bool
+quits_at Quitting = true
+quits_at at = false
+
+abbrev pub quits_next : Next → Bool
+quits_next Quits = true
+quits_next next = false
+
+-- the line is `quit`
+abbrev pub quits_line : List ℕ → Bool
+quits_line line = if is_too_long line then false else quits_by (command_of line)
+
+-- within a command
+abbrev pub is_asking : At → Bool
+is_asking (Asking stage) = true
+is_asking at = false

@@ -9,7 +9,7 @@ ghost use Rattle.engine_face.specs.Meaning.{IsAccepted};
 ghost use Rattle.engine_face.specs.Packing.{IsPacked};
 ghost use Rattle.engine_face.specs.declared.keys.Scope.TheVariants as scope;
 ghost use Rattle.session_core.specs.Moving.{numbered_in, is_named_as, with_kept, changed_held, line_next, line_built, line_spared, taken_on};
-ghost use Rattle.session_core.specs.Settling.{moved_text, Asks, Replies, RepliesToQuit, Settled, IsShort, is_marked};
+ghost use Rattle.session_core.specs.Settling.{moved_text, Asks, Replies, RepliesToQuit, Settled, IsShort, is_asking, is_marked, quits_at, quits_line};
 ghost use Rattle.session_core.specs.Fitting.{RootFits, HeldFits, StageFits, AnswerFits, CoreFits, IsAskableNeed};
 ghost use Rattle.session_core.specs.Standing.{Begins, GoesOn, Feeds, IsAsked, IsFresh};
 
@@ -401,8 +401,10 @@ impl SessionCore {
         ensures fits { CoreFits (E.meaning engine.now) (E.unpack engine.now) self.new }
         ensures root { self.new.root ≡ self.old.root }
         ensures asks { IsAskableNeed (E.meaning engine.now) (E.unpack engine.now) result }
+        ensures unchanged { is_asking self.new.at ≡ true → self.new.held ≡ self.old.held }
         ensures begins { Begins (E.meaning engine.now) (E.unpack engine.now) self.old line.now self.new result }
         ensures spared { line_spared self.old.held line.now ≡ true → is_marked self.new.at ≡ false }
+        ensures quits { quits_at self.new.at ≡ quits_line line.now }
     {
         match start_turn(alloc, engine, &self.root, &mut self.held, line) {
             Ok(turn) => {
@@ -424,6 +426,9 @@ impl SessionCore {
         ensures fits { CoreFits (E.meaning engine.now) (E.unpack engine.now) self.new }
         ensures root { self.new.root ≡ self.old.root }
         ensures asks { IsAskableNeed (E.meaning engine.now) (E.unpack engine.now) result }
+        ensures memory { answer ≡ Answer.Memory → is_marked self.new.at ≡ true }
+        ensures quits { quits_at self.new.at ≡ false }
+        ensures unchanged { is_asking self.new.at ≡ true → self.new.held ≡ self.old.held }
         ensures goes { GoesOn (E.meaning engine.now) (E.unpack engine.now) self.old.root self.old.held stage answer self.new.held self.new.at result }
     {
         match feed_turn(
@@ -454,6 +459,9 @@ impl SessionCore {
         ensures fits { CoreFits (E.meaning engine.now) (E.unpack engine.now) self.new }
         ensures root { self.new.root ≡ self.old.root }
         ensures asks { IsAskableNeed (E.meaning engine.now) (E.unpack engine.now) result }
+        ensures memory { answer ≡ Answer.Memory → is_marked self.new.at ≡ true }
+        ensures quits { quits_at self.new.at ≡ false }
+        ensures unchanged { is_asking self.new.at ≡ true → self.new.held ≡ self.old.held }
         ensures feeds { Feeds (E.meaning engine.now) (E.unpack engine.now) self.old.root self.old.held self.old.at answer self.new.held self.new.at result }
     {
         let at = mem::replace(&mut self.at, At::Idle);

@@ -1,0 +1,11 @@
+pub mod Then
+pub mod Told
+pub mod Gathers
+pub mod Choosing
+pub mod Loops
+pub mod Walking
+pub mod Kept
+pub mod Trees
+pub mod Limits
+pub mod Steps
+pub mod Writing

@@ -1,0 +1,13 @@
+use Rattle.std.proofs.Common.{◌≡◌, ◌++◌, drop, Ok}
+use Rattle.std.specs.List.{AllByRecursion}
+use Rattle.b_meaning.specs.Meaning.{tuple_limit, values_of}
+use Rattle.b_places.specs.Scopes.{slots_of}
+use Rattle.b_rows.specs.Answers.{bind}
+use Rattle.b_values.specs.Values.{IsKept}
+use Rattle.b_outcomes.proofs.single.values.Given as goal
+
+abbrev pub invariant-loop-e : goal.invariant-loop-e
+invariant-loop-e l = record {
+  state : values_of tuple_limit l.es (slots_of l.env) ≡ bind (values_of tuple_limit (drop l.e-index l.es) (slots_of l.env)) (λ vs. Ok (l.values.items ++ vs));
+  kept : AllByRecursion IsKept l.values.items;
+}
