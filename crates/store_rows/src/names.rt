@@ -1,4 +1,5 @@
 // Names and their numbers.
+use crate::hashes::{FIRST, SECOND, hash_of};
 use engine_face::Packed;
 use names_list::Names;
 use sqlite_items::Items;
@@ -86,5 +87,20 @@ fn each_of_many_states_has_its_own_number(rt: HostRuntime) -> Result<(), Fail> {
     assert!(rt; named_in_order(rt.alloc(), &mut names, 3000)?);
     assert!(rt; named_in_order(rt.alloc(), &mut names, 3000)?);
     assert_eq!(rt; names.len(), 3001);
+    Ok(())
+}
+
+#[test]
+fn states_of_equal_hash_have_numbers_of_their_own(rt: HostRuntime) -> Result<(), Fail> {
+    let root = state(rt.alloc(), &FIRST)?;
+    let other = state(rt.alloc(), &SECOND)?;
+    assert_eq!(rt; hash_of(&root), hash_of(&other));
+    assert!(rt; root != other);
+    let mut names = Names::new(rt.alloc(), root)?;
+    assert_eq!(rt; number_of(rt.alloc(), &mut names, &SECOND)?, 1);
+    assert_eq!(rt; number_of(rt.alloc(), &mut names, &FIRST)?, 0);
+    assert_eq!(rt; number_of(rt.alloc(), &mut names, &SECOND)?, 1);
+    assert!(rt; bytes_at(&names, 1) == Some(SECOND.as_slice()));
+    assert_eq!(rt; names.len(), 2);
     Ok(())
 }

@@ -1,4 +1,5 @@
 // Step lists by state.
+use crate::hashes::{FIRST, SECOND, hash_of};
 use crate::scripts::ROWS;
 use b_values::OpId;
 use engine_face::{ListEnd, OpList, Packed, StepList};
@@ -8,8 +9,23 @@ use std::alloc::{AllocError, Global};
 use std::test::Fail;
 use step_cache::StepStore;
 
+/// The state of a letter. The hashes of a and b are equal.
 fn state(alloc: Global, letter: u8) -> Result<Packed, AllocError> {
-    Packed::of_bytes(alloc, Items::from_slice(alloc, &[letter])?)
+    let bytes = match letter {
+        b'a' => Items::from_slice(alloc, &FIRST)?,
+        b'b' => Items::from_slice(alloc, &SECOND)?,
+        _ => Items::from_slice(alloc, &[letter])?,
+    };
+    Packed::of_bytes(alloc, bytes)
+}
+
+#[test]
+fn two_states_have_one_hash(rt: HostRuntime) -> Result<(), Fail> {
+    let first = state(rt.alloc(), b'a')?;
+    let second = state(rt.alloc(), b'b')?;
+    assert_eq!(rt; hash_of(&first), hash_of(&second));
+    assert!(rt; first != second);
+    Ok(())
 }
 
 /// A list that tells its letter as the number of its one operation.

@@ -1,4 +1,5 @@
 // Values by state and formula.
+use crate::hashes::{FIRST, OTHER_TEXT, SECOND, TEXT, hash_of};
 use crate::scripts::ROWS;
 use b_values::Value;
 use engine_face::{FormulaKey, Packed, SharedBytes, ValueAnswer};
@@ -8,25 +9,37 @@ use std::alloc::{AllocError, Global};
 use std::test::Fail;
 use value_cache::{ValueKey, ValueStore};
 
-/// A key: of each two letters one state, of each four one text, and then a predicate or an expression.
-fn key_of(alloc: Global, letter: u8) -> Result<ValueKey, AllocError> {
-    let n = letter.wrapping_sub(b'a');
+/// The bytes of a letter's state, and the text of its formula. The hashes of all are equal.
+fn parts_of(letter: u8) -> ([u8; 8], [u8; 8]) {
+    let at = if letter.wrapping_sub(b'a') / 2 % 2 == 0 {
+        FIRST
+    } else {
+        SECOND
+    };
+    (at, if letter < b'e' { TEXT } else { OTHER_TEXT })
+}
+
+/// A key: of each two letters one state, of the first four one text, and by turns a predicate and an expression.
+fn key_at(alloc: Global, letter: u8) -> Result<ValueKey, AllocError> {
+    let (at, text) = parts_of(letter);
     Ok(ValueKey {
-        at: Packed::of_bytes(alloc, Items::from_slice(alloc, &[n / 2 % 2])?)?,
+        at: Packed::of_bytes(alloc, Items::from_slice(alloc, &at)?)?,
         key: FormulaKey {
-            text: SharedBytes::new(alloc, Items::from_slice(alloc, &[b'f'])?)?,
-            predicate: n % 2 == 0,
+            text: SharedBytes::new(alloc, Items::from_slice(alloc, &text)?)?,
+            predicate: letter % 2 == 1,
         },
     })
 }
 
-/// A key of a letter, whose formula's text is longer from e on.
-fn key_at(alloc: Global, letter: u8) -> Result<ValueKey, AllocError> {
-    let mut key = key_of(alloc, letter)?;
-    if letter >= b'e' {
-        key.key.text = SharedBytes::new(alloc, Items::from_slice(alloc, b"fg")?)?;
+#[test]
+fn four_keys_have_one_hash(rt: HostRuntime) -> Result<(), Fail> {
+    let first = key_at(rt.alloc(), b'a')?;
+    for other in b"ceg" {
+        let key = key_at(rt.alloc(), *other)?;
+        assert_eq!(rt; hash_of(&key), hash_of(&first));
+        assert!(rt; key != first);
     }
-    Ok(key)
+    Ok(())
 }
 
 fn answer_of(alloc: Global, letter: u8) -> Result<Shared<ValueAnswer>, AllocError> {
