@@ -1,0 +1,8 @@
+use Rattle.std.proofs.Common.{◌≡◌, ◌++◌, drop}
+use Rattle.type_names.specs.Names.{in_order}
+use Rattle.type_names.specs.Faces.{set_names}
+use Rattle.type_names.proofs.faces.push_sets.Given as goal
+
+-- what is listed, and then the rest
+abbrev pub invariant-loop-set : goal.invariant-loop-set
+invariant-loop-set l = l.out.items ++ in_order l.part (set_names (drop l.set-index l.sets)) ≡ l.fn.out.items ++ in_order 0 (set_names l.sets)
