@@ -96,7 +96,7 @@ pub struct Def {
     pub at: u64,
 }
 
-/// The definitions of a machine in text order.
+/// The definitions of a machine, each behind those that its body uses: the order in which a table is read.
 #[derive(Drop)]
 pub struct DefTable {
     pub defs: Items<Def>,
