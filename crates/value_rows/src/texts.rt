@@ -39,6 +39,26 @@ fn set_of(alloc: Global, a: Ty) -> Result<Ty, AllocError> {
     Ok(Ty::Set(Boxed::new(alloc, a)?))
 }
 
+fn couple_type(alloc: Global) -> Result<Ty, AllocError> {
+    pair_of(alloc, Ty::Int, Ty::Int)
+}
+
+fn left_type(alloc: Global) -> Result<Ty, AllocError> {
+    pair_of(alloc, couple_type(alloc)?, Ty::Int)
+}
+
+fn right_type(alloc: Global) -> Result<Ty, AllocError> {
+    pair_of(alloc, Ty::Int, couple_type(alloc)?)
+}
+
+fn sequence_type(alloc: Global) -> Result<Ty, AllocError> {
+    set_of(alloc, pair_of(alloc, Ty::Int, Ty::Truth)?)
+}
+
+fn family_type(alloc: Global) -> Result<Ty, AllocError> {
+    set_of(alloc, set_of(alloc, Ty::Int)?)
+}
+
 /// What is written of what is read; `V1` where the text is none of the type.
 fn read_again(alloc: Global, ty: &Ty, text: &[u8]) -> Result<Vec<u8>, ReadFault> {
     let face = face(alloc).map_err(|_| ReadFault::Memory)?;
@@ -49,16 +69,18 @@ fn read_again(alloc: Global, ty: &Ty, text: &[u8]) -> Result<Vec<u8>, ReadFault>
     }
 }
 
+/// What is written of what this text reads to.
+fn reads(rt: &impl Abort, alloc: Global, ty: &Ty, text: &[u8], want: &[u8]) -> Result<(), Fail> {
+    let got = read_again(alloc, ty, text)?;
+    assert_eq!(rt; got.as_slice(), want, "{}", text.escape_ascii());
+    Ok(())
+}
+
 /// Each line of a table has a text and what is written of what it reads to.
 fn reads_all(rt: &impl Abort, alloc: Global, ty: &Ty, table: &str) -> Result<(), Fail> {
     for line in table.lines() {
-        let Some((text, want)) = line.split_once(';') else {
-            return Err(Fail::from("a line without an answer"));
-        };
-        assert_eq!(rt;
-            read_again(alloc, ty, text.as_bytes())?.as_slice(),
-            want.as_bytes()
-        );
+        let (text, want) = line.split_once(';').ok_or("a line without an answer")?;
+        reads(rt, alloc, ty, text.as_bytes(), want.as_bytes())?;
     }
     Ok(())
 }
@@ -142,72 +164,83 @@ const SEQUENCES: &str = "[TRUE,FALSE];{(1|->TRUE),(2|->FALSE)}
 [TRUE;V1
 [1|->TRUE];V1";
 
+const TRUTHS: &str = "TRUE;TRUE
+ FALSE ;FALSE
+true;V1
+TRUEx;V1
+TRU;V1";
+
+const FIRST_ELEMENTS: &str = "a;a
+ b ;b
+prj1;prj1
+c_2;V1
+B;V1
+a b;V1
+prj;V1";
+
+const FAMILIES: &str = "{{2,1},{},{1,2}};{{},{1,2}}";
+
 #[test]
-fn reads_numbers_and_truth_values(rt: HostRuntime) -> Result<(), Fail> {
-    let alloc = rt.alloc();
-    reads_all(&rt, alloc, &Ty::Int, NUMBERS)?;
-    reads_all(
-        &rt,
-        alloc,
-        &Ty::Truth,
-        "TRUE;TRUE\n FALSE ;FALSE\ntrue;V1\nTRUEx;V1\nTRU;V1",
-    )
+fn reads_numbers(rt: HostRuntime) -> Result<(), Fail> {
+    reads_all(&rt, rt.alloc(), &Ty::Int, NUMBERS)
+}
+
+#[test]
+fn reads_truth_values(rt: HostRuntime) -> Result<(), Fail> {
+    reads_all(&rt, rt.alloc(), &Ty::Truth, TRUTHS)
 }
 
 #[test]
 fn reads_strings(rt: HostRuntime) -> Result<(), Fail> {
-    let alloc = rt.alloc();
-    reads_all(&rt, alloc, &Ty::Text, STRINGS)?;
-    assert_eq!(rt;
-        read_again(alloc, &Ty::Text, b"\"a\nb\"")?.as_slice(),
-        b"V1".as_slice()
-    );
-    assert_eq!(rt;
-        read_again(alloc, &Ty::Text, b"\"\xc3\"")?.as_slice(),
-        b"V1".as_slice()
-    );
-    assert_eq!(rt;
-        read_again(alloc, &Ty::Text, b"\"\t\"")?.as_slice(),
-        b"\"\\t\"".as_slice()
-    );
-    Ok(())
+    reads_all(&rt, rt.alloc(), &Ty::Text, STRINGS)?;
+    reads(&rt, rt.alloc(), &Ty::Text, b"\"a\nb\"", b"V1")?;
+    reads(&rt, rt.alloc(), &Ty::Text, b"\"\xc3\"", b"V1")?;
+    reads(&rt, rt.alloc(), &Ty::Text, b"\"\t\"", b"\"\\t\"")
 }
 
 #[test]
 fn reads_elements_by_their_set(rt: HostRuntime) -> Result<(), Fail> {
-    let alloc = rt.alloc();
-    reads_all(
-        &rt,
-        alloc,
-        &Ty::Elem(0),
-        "a;a\n b ;b\nprj1;prj1\nc_2;V1\nB;V1\na b;V1\nprj;V1",
-    )?;
-    reads_all(&rt, alloc, &Ty::Elem(1), "c_2;c_2\na;V1")?;
-    reads_all(&rt, alloc, &Ty::Elem(2), "a;V1")?;
-    let face = face(alloc)?;
-    let shared_name = read_value(alloc, &face, &Ty::Elem(1), b"b")?;
+    reads_all(&rt, rt.alloc(), &Ty::Elem(0), FIRST_ELEMENTS)?;
+    reads_all(&rt, rt.alloc(), &Ty::Elem(1), "c_2;c_2\na;V1")?;
+    reads_all(&rt, rt.alloc(), &Ty::Elem(2), "a;V1")
+}
+
+#[test]
+fn reads_a_shared_name_by_its_set(rt: HostRuntime) -> Result<(), Fail> {
+    let face = face(rt.alloc())?;
+    let shared_name = read_value(rt.alloc(), &face, &Ty::Elem(1), b"b")?;
     assert!(rt; shared_name == Value::Elem { set: 1, index: 0 });
     Ok(())
 }
 
 #[test]
 fn reads_couples_from_the_left(rt: HostRuntime) -> Result<(), Fail> {
-    let alloc = rt.alloc();
-    let left = pair_of(alloc, pair_of(alloc, Ty::Int, Ty::Int)?, Ty::Int)?;
-    reads_all(&rt, alloc, &left, LEFT_COUPLES)?;
-    let right = pair_of(alloc, Ty::Int, pair_of(alloc, Ty::Int, Ty::Int)?)?;
-    reads_all(&rt, alloc, &right, RIGHT_COUPLES)
+    let left = left_type(rt.alloc())?;
+    reads_all(&rt, rt.alloc(), &left, LEFT_COUPLES)
 }
 
 #[test]
-fn reads_sets_and_sequences(rt: HostRuntime) -> Result<(), Fail> {
-    let alloc = rt.alloc();
-    let numbers = set_of(alloc, Ty::Int)?;
-    reads_all(&rt, alloc, &numbers, SETS)?;
-    let sequence = set_of(alloc, pair_of(alloc, Ty::Int, Ty::Truth)?)?;
-    reads_all(&rt, alloc, &sequence, SEQUENCES)?;
-    let families = set_of(alloc, set_of(alloc, Ty::Int)?)?;
-    reads_all(&rt, alloc, &families, "{{2,1},{},{1,2}};{{},{1,2}}")
+fn reads_couples_on_the_right(rt: HostRuntime) -> Result<(), Fail> {
+    let right = right_type(rt.alloc())?;
+    reads_all(&rt, rt.alloc(), &right, RIGHT_COUPLES)
+}
+
+#[test]
+fn reads_sets(rt: HostRuntime) -> Result<(), Fail> {
+    let numbers = set_of(rt.alloc(), Ty::Int)?;
+    reads_all(&rt, rt.alloc(), &numbers, SETS)
+}
+
+#[test]
+fn reads_sequences(rt: HostRuntime) -> Result<(), Fail> {
+    let sequence = sequence_type(rt.alloc())?;
+    reads_all(&rt, rt.alloc(), &sequence, SEQUENCES)
+}
+
+#[test]
+fn reads_families(rt: HostRuntime) -> Result<(), Fail> {
+    let families = family_type(rt.alloc())?;
+    reads_all(&rt, rt.alloc(), &families, FAMILIES)
 }
 
 /// So many opening brackets, and as many closing ones.
@@ -222,19 +255,20 @@ fn nested(alloc: Global, depth: usize) -> Result<Vec<u8>, AllocError> {
     Ok(text)
 }
 
-#[test]
-fn counts_open_brackets(rt: HostRuntime) -> Result<(), Fail> {
-    let alloc = rt.alloc();
+/// Sets in sets, deeper than any text that is read.
+fn deep_type(alloc: Global) -> Result<Ty, AllocError> {
     let mut ty = set_of(alloc, Ty::Int)?;
     for _ in 0..120 {
         ty = set_of(alloc, ty)?;
     }
-    let most = nested(alloc, 100)?;
-    assert!(rt; read_again(alloc, &ty, most.as_slice())?.as_slice() == most.as_slice());
-    let over = nested(alloc, 101)?;
-    assert_eq!(rt;
-        read_again(alloc, &ty, over.as_slice())?.as_slice(),
-        b"V1".as_slice()
-    );
-    Ok(())
+    Ok(ty)
+}
+
+#[test]
+fn counts_open_brackets(rt: HostRuntime) -> Result<(), Fail> {
+    let ty = deep_type(rt.alloc())?;
+    let most = nested(rt.alloc(), 100)?;
+    reads(&rt, rt.alloc(), &ty, most.as_slice(), most.as_slice())?;
+    let over = nested(rt.alloc(), 101)?;
+    reads(&rt, rt.alloc(), &ty, over.as_slice(), b"V1")
 }

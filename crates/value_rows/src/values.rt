@@ -7,6 +7,7 @@ use shared::Shared;
 use sqlite_items::Items;
 use std::alloc::{AllocError, Global};
 use std::cmp::Ordering;
+use std::process::Abort;
 use std::test::Fail;
 
 fn text(alloc: Global, bytes: &[u8]) -> Result<Value, AllocError> {
@@ -32,48 +33,99 @@ fn only(alloc: Global, member: Value) -> Result<Value, AllocError> {
     make_set(alloc, items)
 }
 
-/// Numbers, truth values, texts and elements, ascending.
-fn push_atoms(alloc: Global, table: &mut Vec<Value>) -> Result<(), AllocError> {
-    for n in [i128::MIN, -1, 0, 7, i128::MAX] {
-        table.push(Value::Int(n))?;
+/// The set of the numbers in a text, with commas between them.
+fn numbers(alloc: Global, text: &str) -> Result<Value, Fail> {
+    let mut items = Vec::new(alloc);
+    for n in text.split(',') {
+        if !n.is_empty() {
+            items.push(Value::Int(n.parse::<i128>()?))?;
+        }
     }
-    table.push(Value::Truth(false))?;
-    table.push(Value::Truth(true))?;
-    // By length, "b" would stand before "ab".
-    for bytes in ["", "a", "ab", "b", "ba", "é"] {
-        table.push(text(alloc, bytes.as_bytes())?)?;
-    }
-    // By index, the last of the first set would stand behind the first of the second.
-    for (set, index) in [(0, 0), (0, 5), (1, 0), (1, 1)] {
-        table.push(Value::Elem { set, index })?;
-    }
-    Ok(())
+    Ok(make_set(alloc, items)?)
 }
 
-/// Couples and sets, ascending.
-fn push_parts(alloc: Global, table: &mut Vec<Value>) -> Result<(), AllocError> {
-    for (a, b) in [(0, 9), (1, 0), (1, 2)] {
-        table.push(pair(alloc, Value::Int(a), Value::Int(b))?)?;
+fn couple_of_numbers(alloc: Global, text: &str) -> Result<Value, Fail> {
+    let (a, b) = text.split_once(',').ok_or("a couple of one")?;
+    let a = a.parse::<i128>()?;
+    let b = b.parse::<i128>()?;
+    Ok(pair(alloc, Value::Int(a), Value::Int(b))?)
+}
+
+fn couple_of_sets(alloc: Global, text: &str) -> Result<Value, Fail> {
+    let (a, b) = text.split_once('|').ok_or("a couple of one")?;
+    let a = numbers(alloc, a)?;
+    let b = numbers(alloc, b)?;
+    Ok(pair(alloc, a, b)?)
+}
+
+fn element(text: &str) -> Result<Value, Fail> {
+    let (set, index) = text.split_once('.').ok_or("an element without a place")?;
+    let set = set.parse::<u32>()?;
+    let index = index.parse::<u32>()?;
+    Ok(Value::Elem { set, index })
+}
+
+/// The value of a word: a number `n:7`, a truth value `t:`, a text `x:a`, an element `e:0.5`, a couple of numbers `c:0,9`,
+/// a set of numbers `s:0,1`, a set of one such set `f:0,1`, a couple of such sets `d:0|1`.
+fn value(alloc: Global, word: &str) -> Result<Value, Fail> {
+    let (kind, rest) = word.split_once(':').ok_or("a word without a kind")?;
+    match kind {
+        "n" => Ok(Value::Int(rest.parse::<i128>()?)),
+        "t" => Ok(Value::Truth(rest == "TRUE")),
+        "x" => Ok(text(alloc, rest.as_bytes())?),
+        "e" => element(rest),
+        "c" => couple_of_numbers(alloc, rest),
+        "s" => numbers(alloc, rest),
+        "f" => Ok(only(alloc, numbers(alloc, rest)?)?),
+        "d" => couple_of_sets(alloc, rest),
+        _ => Err(Fail::from("no kind")),
     }
-    // A proper prefix first; by size, {1} would stand before {0,1}.
-    table.push(ints(alloc, &[])?)?;
-    table.push(ints(alloc, &[0])?)?;
-    table.push(ints(alloc, &[1, 0])?)?;
-    table.push(ints(alloc, &[0, 1, 5])?)?;
-    table.push(ints(alloc, &[0, 2])?)?;
-    table.push(ints(alloc, &[1])?)?;
-    table.push(only(alloc, ints(alloc, &[])?)?)?;
-    table.push(only(alloc, ints(alloc, &[0, 3])?)?)?;
-    table.push(only(alloc, ints(alloc, &[1])?)?)?;
-    Ok(())
+}
+
+/// Values, ascending. By length, the text b would stand before ab; by index, the last element of the first set behind
+/// the first of the second; by size, {1} before {0,1}. A proper prefix stands first.
+const ASCENDING: &str = "n:-170141183460469231731687303715884105728
+n:-1
+n:0
+n:7
+n:170141183460469231731687303715884105727
+t:FALSE
+t:TRUE
+x:
+x:a
+x:ab
+x:b
+x:ba
+x:é
+e:0.0
+e:0.5
+e:1.0
+e:1.1
+c:0,9
+c:1,0
+c:1,2
+s:
+s:0
+s:1,0
+s:0,1,5
+s:0,2
+s:1
+f:
+f:0,3
+f:1";
+
+fn ascending(alloc: Global) -> Result<Vec<Value>, Fail> {
+    let mut table = Vec::new(alloc);
+    for word in ASCENDING.lines() {
+        table.push(value(alloc, word)?)?;
+    }
+    Ok(table)
 }
 
 #[test]
 fn orders_all_values(rt: HostRuntime) -> Result<(), Fail> {
-    let alloc = rt.alloc();
-    let mut table = Vec::new(alloc);
-    push_atoms(alloc, &mut table)?;
-    push_parts(alloc, &mut table)?;
+    let table = ascending(rt.alloc())?;
+    assert_eq!(rt; table.len(), 29);
     for (i, a) in table.iter().enumerate() {
         for (j, b) in table.iter().enumerate() {
             assert_eq!(rt; order(a, b), i.cmp(&j), "at {i} and {j}");
@@ -84,50 +136,71 @@ fn orders_all_values(rt: HostRuntime) -> Result<(), Fail> {
     Ok(())
 }
 
+/// Values and how many nodes they have.
+const SIZES: &str = "n:5 1
+x:abc 1
+e:0.9 1
+s: 1
+s:3,4 3
+d:1,2| 5";
+
+fn check_size(rt: &impl Abort, alloc: Global, line: &str) -> Result<(), Fail> {
+    let (word, want) = line.split_once(' ').ok_or("a line without a size")?;
+    let v = value(alloc, word)?;
+    let want = want.parse::<u64>()?;
+    assert_eq!(rt; nodes(&v), want, "{line}");
+    assert!(rt; fits(&v, want), "{line}");
+    assert!(rt; !fits(&v, want.saturating_sub(1)), "{line}");
+    assert_eq!(rt; spend(&v, want.saturating_add(3)), Some(3), "{line}");
+    Ok(())
+}
+
 #[test]
 fn counts_nodes(rt: HostRuntime) -> Result<(), Fail> {
-    let alloc = rt.alloc();
-    let couple = pair(alloc, ints(alloc, &[1, 2])?, ints(alloc, &[])?)?;
-    for (v, want) in [
-        (Value::Int(5), 1),
-        (text(alloc, b"abc")?, 1),
-        (Value::Elem { set: 0, index: 9 }, 1),
-        (ints(alloc, &[])?, 1),
-        (ints(alloc, &[3, 4])?, 3),
-        (couple, 5),
-    ] {
-        assert_eq!(rt; nodes(&v), want, "at {v:?}");
-        assert!(rt; fits(&v, want));
-        assert!(rt; !fits(&v, want.saturating_sub(1)));
-        assert_eq!(rt; spend(&v, want.saturating_add(3)), Some(3));
+    for line in SIZES.lines() {
+        check_size(&rt, rt.alloc(), line)?;
     }
     assert_eq!(rt; spend_all(&[Value::Int(1), Value::Truth(true)], 1), None);
     Ok(())
 }
 
-#[test]
-fn limits_nodes(rt: HostRuntime) -> Result<(), Fail> {
-    let alloc = rt.alloc();
+/// A set of 1,000,000 nodes.
+fn largest(alloc: Global) -> Result<Value, AllocError> {
     let mut items = Vec::new(alloc);
     for n in 0..999_999u32 {
         items.push(Value::Int(i128::from(n)))?;
     }
-    let largest = make_set(alloc, items)?;
+    make_set(alloc, items)
+}
+
+#[test]
+fn limits_nodes(rt: HostRuntime) -> Result<(), Fail> {
+    let largest = largest(rt.alloc())?;
     assert_eq!(rt; nodes(&largest), NODE_LIMIT);
-    let couple = pair(alloc, largest.share()?, Value::Int(0))?;
     assert!(rt; limited(largest).is_ok());
+    Ok(())
+}
+
+#[test]
+fn refuses_one_node_more(rt: HostRuntime) -> Result<(), Fail> {
+    let couple = pair(rt.alloc(), largest(rt.alloc())?, Value::Int(0))?;
     assert!(rt; limited(couple) == Err(FaultKind::TooLarge));
     Ok(())
 }
 
 #[test]
 fn makes_sets(rt: HostRuntime) -> Result<(), Fail> {
-    let alloc = rt.alloc();
-    let set = ints(alloc, &[5, 1, 5, 3, 1])?;
-    assert!(rt; set == ints(alloc, &[1, 3, 5])?);
+    let set = ints(rt.alloc(), &[5, 1, 5, 3, 1])?;
+    let same = ints(rt.alloc(), &[1, 3, 5])?;
+    assert!(rt; set == same);
     assert_eq!(rt; set.members().len(), 3);
     assert_eq!(rt; Value::Int(3).members().len(), 0);
-    let items = set_from(vec![in alloc; Value::Int(4), Value::Int(2)]?);
+    Ok(())
+}
+
+#[test]
+fn finds_members(rt: HostRuntime) -> Result<(), Fail> {
+    let items = set_from(vec![in rt.alloc(); Value::Int(4), Value::Int(2)]?);
     assert!(rt; is_member(items.as_slice(), &Value::Int(2)));
     assert!(rt; !is_member(items.as_slice(), &Value::Int(3)));
     Ok(())
@@ -136,86 +209,95 @@ fn makes_sets(rt: HostRuntime) -> Result<(), Fail> {
 /// Met by what may go between threads.
 fn crosses<T: Send + Sync>(_value: &T) {}
 
-#[test]
-fn shares_values_and_states(rt: HostRuntime) -> Result<(), Fail> {
-    let alloc = rt.alloc();
+/// A set of two numbers and a truth value, shared.
+fn constants(alloc: Global) -> Result<Items<Value>, AllocError> {
     let set = ints(alloc, &[1, 2])?;
-    let shared = share_all(alloc, &[set.share()?, Value::Truth(true)])?;
-    let running = State::Running(Items::new(alloc), shared);
-    let copied = running.copy(alloc)?;
-    crosses(&set);
+    share_all(alloc, &[set, Value::Truth(true)])
+}
+
+#[test]
+fn a_copied_state_is_the_same(rt: HostRuntime) -> Result<(), Fail> {
+    let running = State::Running(Items::new(rt.alloc()), constants(rt.alloc())?);
+    let copied = running.copy(rt.alloc())?;
     crosses(&copied);
     assert!(rt; same_state(&running, &copied));
-    let constants = State::Constants(share_all(alloc, &[set])?);
-    assert!(rt; !same_state(&running, &constants));
-    assert!(rt; !same_state(&State::Root, &constants));
-    assert!(rt; same_state(&constants, &constants.copy(alloc)?));
     Ok(())
 }
 
 #[test]
+fn states_of_other_kinds_differ(rt: HostRuntime) -> Result<(), Fail> {
+    let running = State::Running(Items::new(rt.alloc()), constants(rt.alloc())?);
+    let fixed = State::Constants(constants(rt.alloc())?);
+    assert!(rt; !same_state(&running, &fixed));
+    assert!(rt; !same_state(&State::Root, &fixed));
+    let copied = fixed.copy(rt.alloc())?;
+    assert!(rt; same_state(&fixed, &copied));
+    Ok(())
+}
+
+#[test]
+fn a_shared_value_is_the_same(rt: HostRuntime) -> Result<(), Fail> {
+    let set = ints(rt.alloc(), &[1, 2])?;
+    let shared = set.share()?;
+    crosses(&shared);
+    assert!(rt; same_value(&set, &shared));
+    Ok(())
+}
+
+const PREFS: Prefs = Prefs {
+    minint: -1,
+    maxint: 3,
+    max_operations: 10,
+    max_initialisations: 4,
+    default_setsize: 2,
+    cache_steps: 1_000,
+    cache_values: 10_000,
+};
+
+const RIGHT_PREFS: [Prefs; 3] = [
+    PREFS,
+    Prefs {
+        maxint: 1_000_000_000,
+        ..PREFS
+    },
+    Prefs {
+        cache_values: 1_000_000,
+        ..PREFS
+    },
+];
+
+const WRONG_PREFS: [Prefs; 7] = [
+    Prefs { minint: 1, ..PREFS },
+    Prefs {
+        minint: -1_000_000_001,
+        ..PREFS
+    },
+    Prefs { maxint: 0, ..PREFS },
+    Prefs {
+        max_operations: 1_001,
+        ..PREFS
+    },
+    Prefs {
+        max_initialisations: 0,
+        ..PREFS
+    },
+    Prefs {
+        default_setsize: 1_001,
+        ..PREFS
+    },
+    Prefs {
+        cache_steps: 1_000_001,
+        ..PREFS
+    },
+];
+
+#[test]
 fn ranges_of_preferences(rt: HostRuntime) {
-    let prefs = Prefs::default();
-    assert_eq!(rt;
-        (prefs.minint, prefs.maxint, prefs.max_operations),
-        (-1, 3, 10)
-    );
-    assert_eq!(rt; (prefs.max_initialisations, prefs.default_setsize), (4, 2));
-    assert_eq!(rt; (prefs.cache_steps, prefs.cache_values), (1_000, 10_000));
-    for (given, are) in [
-        (prefs, true),
-        (Prefs { minint: 1, ..prefs }, false),
-        (
-            Prefs {
-                minint: -1_000_000_001,
-                ..prefs
-            },
-            false,
-        ),
-        (Prefs { maxint: 0, ..prefs }, false),
-        (
-            Prefs {
-                maxint: 1_000_000_000,
-                ..prefs
-            },
-            true,
-        ),
-        (
-            Prefs {
-                max_operations: 1_001,
-                ..prefs
-            },
-            false,
-        ),
-        (
-            Prefs {
-                max_initialisations: 0,
-                ..prefs
-            },
-            false,
-        ),
-        (
-            Prefs {
-                default_setsize: 1_001,
-                ..prefs
-            },
-            false,
-        ),
-        (
-            Prefs {
-                cache_steps: 1_000_001,
-                ..prefs
-            },
-            false,
-        ),
-        (
-            Prefs {
-                cache_values: 1_000_000,
-                ..prefs
-            },
-            true,
-        ),
-    ] {
-        assert_eq!(rt; given.are_in_range(), are, "at {given:?}");
+    assert_eq!(rt; Prefs::default(), PREFS);
+    for prefs in RIGHT_PREFS.iter() {
+        assert!(rt; prefs.are_in_range(), "at {prefs:?}");
+    }
+    for prefs in WRONG_PREFS.iter() {
+        assert!(rt; !prefs.are_in_range(), "at {prefs:?}");
     }
 }
