@@ -445,7 +445,7 @@ fn counted(r: &mut Reader, word: &str, n: u64, at: Place) -> Step {
 const DIGITS: &str = "0 1 2 3 4 5 6 7 8 9";
 
 // A word and the digit at its end.
-fn count_of(word: &str) -> Option<(&str, u64)> {
+pub(crate) fn count_of(word: &str) -> Option<(&str, u64)> {
     for digit in DIGITS.split_whitespace() {
         if let Some(front) = word.strip_suffix(digit) {
             if let Ok(n) = digit.parse::<u64>() {
@@ -477,7 +477,7 @@ fn read_word(r: &mut Reader, word: &str, at: Place) -> Step {
 }
 
 // The place of a letter.
-fn place_of(letter: &str) -> Place {
+pub(crate) fn place_of(letter: &str) -> Place {
     match letter.as_bytes() {
         [b @ b'a'..=b'z'] => Place {
             text: Text::Formula,
@@ -491,7 +491,7 @@ fn place_of(letter: &str) -> Place {
     }
 }
 
-const NO_PLACE: Place = Place {
+pub(crate) const NO_PLACE: Place = Place {
     text: Text::Formula,
     at: 0,
 };
