@@ -3,7 +3,6 @@ use b_values::{Face, Prefs, ReadFault, SetFace, Ty, Value, read_value, write_val
 use sqlite_items::{Boxed, Items};
 use std::alloc::{AllocError, Global};
 use std::process::Abort;
-use std::test::Fail;
 
 fn set_face(alloc: Global, name: &str, elements: &[&str]) -> Result<SetFace, AllocError> {
     let mut names = Items::new(alloc);
@@ -31,58 +30,67 @@ fn face(alloc: Global) -> Result<Face, AllocError> {
     })
 }
 
-fn pair_of(alloc: Global, a: Ty, b: Ty) -> Result<Ty, AllocError> {
-    Ok(Ty::Pair(Boxed::new(alloc, a)?, Boxed::new(alloc, b)?))
+fn pair_of(alloc: Global, a: Ty, b: Ty) -> Option<Ty> {
+    let a = Boxed::new(alloc, a).ok()?;
+    let b = Boxed::new(alloc, b).ok()?;
+    Some(Ty::Pair(a, b))
 }
 
-fn set_of(alloc: Global, a: Ty) -> Result<Ty, AllocError> {
-    Ok(Ty::Set(Boxed::new(alloc, a)?))
+fn set_of(alloc: Global, a: Ty) -> Option<Ty> {
+    Some(Ty::Set(Boxed::new(alloc, a).ok()?))
 }
 
-fn couple_type(alloc: Global) -> Result<Ty, AllocError> {
-    pair_of(alloc, Ty::Int, Ty::Int)
+/// Sets in sets, deeper than any text that is read.
+fn deep_type(alloc: Global) -> Option<Ty> {
+    let mut ty = set_of(alloc, Ty::Int)?;
+    for _ in 0..120 {
+        ty = set_of(alloc, ty)?;
+    }
+    Some(ty)
 }
 
-fn left_type(alloc: Global) -> Result<Ty, AllocError> {
-    pair_of(alloc, couple_type(alloc)?, Ty::Int)
+/// The type of a name; none for want of memory.
+fn type_of(alloc: Global, name: &str) -> Option<Ty> {
+    match name {
+        "number" => Some(Ty::Int),
+        "truth" => Some(Ty::Truth),
+        "string" => Some(Ty::Text),
+        "element of S" => Some(Ty::Elem(0)),
+        "element of T" => Some(Ty::Elem(1)),
+        "element of none" => Some(Ty::Elem(2)),
+        "couple and number" => pair_of(alloc, pair_of(alloc, Ty::Int, Ty::Int)?, Ty::Int),
+        "number and couple" => pair_of(alloc, Ty::Int, pair_of(alloc, Ty::Int, Ty::Int)?),
+        "set" => set_of(alloc, Ty::Int),
+        "sequence" => set_of(alloc, pair_of(alloc, Ty::Int, Ty::Truth)?),
+        "family" => set_of(alloc, set_of(alloc, Ty::Int)?),
+        "deep" => deep_type(alloc),
+        _ => None,
+    }
 }
 
-fn right_type(alloc: Global) -> Result<Ty, AllocError> {
-    pair_of(alloc, Ty::Int, couple_type(alloc)?)
-}
-
-fn sequence_type(alloc: Global) -> Result<Ty, AllocError> {
-    set_of(alloc, pair_of(alloc, Ty::Int, Ty::Truth)?)
-}
-
-fn family_type(alloc: Global) -> Result<Ty, AllocError> {
-    set_of(alloc, set_of(alloc, Ty::Int)?)
-}
-
-/// What is written of what is read; `V1` where the text is none of the type.
-fn read_again(alloc: Global, ty: &Ty, text: &[u8]) -> Result<Vec<u8>, ReadFault> {
-    let face = face(alloc).map_err(|_| ReadFault::Memory)?;
+/// What is written of what is read; `V1` where the text is none of the type. None for want of memory.
+fn read_again(alloc: Global, ty: &Ty, text: &[u8]) -> Option<Vec<u8>> {
+    let face = face(alloc).ok()?;
     match read_value(alloc, &face, ty, text) {
-        Ok(v) => write_value(alloc, &face, &v).map_err(|_| ReadFault::Memory),
-        Err(ReadFault::NotAValue) => b"V1".to_vec(alloc).map_err(|_| ReadFault::Memory),
-        Err(ReadFault::Memory) => Err(ReadFault::Memory),
+        Ok(v) => write_value(alloc, &face, &v).ok(),
+        Err(ReadFault::NotAValue) => b"V1".to_vec(alloc).ok(),
+        Err(ReadFault::Memory) => None,
     }
 }
 
 /// What is written of what this text reads to.
-fn reads(rt: &impl Abort, alloc: Global, ty: &Ty, text: &[u8], want: &[u8]) -> Result<(), Fail> {
-    let got = read_again(alloc, ty, text)?;
+fn reads(rt: &impl Abort, alloc: Global, ty: &Ty, text: &[u8], want: &[u8]) {
+    let got = read_again(alloc, ty, text).expect(rt, "memory");
     assert_eq!(rt; got.as_slice(), want, "{}", text.escape_ascii());
-    Ok(())
 }
 
 /// Each line of a table has a text and what is written of what it reads to.
-fn reads_all(rt: &impl Abort, alloc: Global, ty: &Ty, table: &str) -> Result<(), Fail> {
+fn reads_all(rt: &impl Abort, alloc: Global, name: &str, table: &str) {
+    let ty = type_of(alloc, name).expect(rt, name);
     for line in table.lines() {
-        let (text, want) = line.split_once(';').ok_or("a line without an answer")?;
-        reads(rt, alloc, ty, text.as_bytes(), want.as_bytes())?;
+        let (text, want) = line.split_once(';').expect(rt, line);
+        reads(rt, alloc, &ty, text.as_bytes(), want.as_bytes());
     }
-    Ok(())
 }
 
 const NUMBERS: &str = "0;0
@@ -181,66 +189,36 @@ prj;V1";
 const FAMILIES: &str = "{{2,1},{},{1,2}};{{},{1,2}}";
 
 #[test]
-fn reads_numbers(rt: HostRuntime) -> Result<(), Fail> {
-    reads_all(&rt, rt.alloc(), &Ty::Int, NUMBERS)
+fn reads_texts_of_each_type(rt: HostRuntime) {
+    for (name, table) in [
+        ("number", NUMBERS),
+        ("truth", TRUTHS),
+        ("string", STRINGS),
+        ("element of S", FIRST_ELEMENTS),
+        ("element of T", "c_2;c_2\na;V1"),
+        ("element of none", "a;V1"),
+        ("couple and number", LEFT_COUPLES),
+        ("number and couple", RIGHT_COUPLES),
+        ("set", SETS),
+        ("sequence", SEQUENCES),
+        ("family", FAMILIES),
+    ] {
+        reads_all(&rt, rt.alloc(), name, table);
+    }
 }
 
 #[test]
-fn reads_truth_values(rt: HostRuntime) -> Result<(), Fail> {
-    reads_all(&rt, rt.alloc(), &Ty::Truth, TRUTHS)
+fn reads_bytes_in_strings(rt: HostRuntime) {
+    reads(&rt, rt.alloc(), &Ty::Text, b"\"a\nb\"", b"V1");
+    reads(&rt, rt.alloc(), &Ty::Text, b"\"\xc3\"", b"V1");
+    reads(&rt, rt.alloc(), &Ty::Text, b"\"\t\"", b"\"\\t\"");
 }
 
 #[test]
-fn reads_strings(rt: HostRuntime) -> Result<(), Fail> {
-    reads_all(&rt, rt.alloc(), &Ty::Text, STRINGS)?;
-    reads(&rt, rt.alloc(), &Ty::Text, b"\"a\nb\"", b"V1")?;
-    reads(&rt, rt.alloc(), &Ty::Text, b"\"\xc3\"", b"V1")?;
-    reads(&rt, rt.alloc(), &Ty::Text, b"\"\t\"", b"\"\\t\"")
-}
-
-#[test]
-fn reads_elements_by_their_set(rt: HostRuntime) -> Result<(), Fail> {
-    reads_all(&rt, rt.alloc(), &Ty::Elem(0), FIRST_ELEMENTS)?;
-    reads_all(&rt, rt.alloc(), &Ty::Elem(1), "c_2;c_2\na;V1")?;
-    reads_all(&rt, rt.alloc(), &Ty::Elem(2), "a;V1")
-}
-
-#[test]
-fn reads_a_shared_name_by_its_set(rt: HostRuntime) -> Result<(), Fail> {
-    let face = face(rt.alloc())?;
-    let shared_name = read_value(rt.alloc(), &face, &Ty::Elem(1), b"b")?;
-    assert!(rt; shared_name == Value::Elem { set: 1, index: 0 });
-    Ok(())
-}
-
-#[test]
-fn reads_couples_from_the_left(rt: HostRuntime) -> Result<(), Fail> {
-    let left = left_type(rt.alloc())?;
-    reads_all(&rt, rt.alloc(), &left, LEFT_COUPLES)
-}
-
-#[test]
-fn reads_couples_on_the_right(rt: HostRuntime) -> Result<(), Fail> {
-    let right = right_type(rt.alloc())?;
-    reads_all(&rt, rt.alloc(), &right, RIGHT_COUPLES)
-}
-
-#[test]
-fn reads_sets(rt: HostRuntime) -> Result<(), Fail> {
-    let numbers = set_of(rt.alloc(), Ty::Int)?;
-    reads_all(&rt, rt.alloc(), &numbers, SETS)
-}
-
-#[test]
-fn reads_sequences(rt: HostRuntime) -> Result<(), Fail> {
-    let sequence = sequence_type(rt.alloc())?;
-    reads_all(&rt, rt.alloc(), &sequence, SEQUENCES)
-}
-
-#[test]
-fn reads_families(rt: HostRuntime) -> Result<(), Fail> {
-    let families = family_type(rt.alloc())?;
-    reads_all(&rt, rt.alloc(), &families, FAMILIES)
+fn reads_a_shared_name_by_its_set(rt: HostRuntime) {
+    let face = face(rt.alloc()).expect(&rt, "memory");
+    let element = read_value(rt.alloc(), &face, &Ty::Elem(1), b"b").expect(&rt, "an element");
+    assert!(rt; element == Value::Elem { set: 1, index: 0 });
 }
 
 /// So many opening brackets, and as many closing ones.
@@ -255,20 +233,11 @@ fn nested(alloc: Global, depth: usize) -> Result<Vec<u8>, AllocError> {
     Ok(text)
 }
 
-/// Sets in sets, deeper than any text that is read.
-fn deep_type(alloc: Global) -> Result<Ty, AllocError> {
-    let mut ty = set_of(alloc, Ty::Int)?;
-    for _ in 0..120 {
-        ty = set_of(alloc, ty)?;
-    }
-    Ok(ty)
-}
-
 #[test]
-fn counts_open_brackets(rt: HostRuntime) -> Result<(), Fail> {
-    let ty = deep_type(rt.alloc())?;
-    let most = nested(rt.alloc(), 100)?;
-    reads(&rt, rt.alloc(), &ty, most.as_slice(), most.as_slice())?;
-    let over = nested(rt.alloc(), 101)?;
-    reads(&rt, rt.alloc(), &ty, over.as_slice(), b"V1")
+fn counts_open_brackets(rt: HostRuntime) {
+    let ty = type_of(rt.alloc(), "deep").expect(&rt, "memory");
+    let most = nested(rt.alloc(), 100).expect(&rt, "memory");
+    reads(&rt, rt.alloc(), &ty, most.as_slice(), most.as_slice());
+    let over = nested(rt.alloc(), 101).expect(&rt, "memory");
+    reads(&rt, rt.alloc(), &ty, over.as_slice(), b"V1");
 }

@@ -5,80 +5,74 @@ use b_values::{
 };
 use shared::Shared;
 use sqlite_items::Items;
-use std::alloc::{AllocError, Global};
+use std::alloc::Global;
 use std::cmp::Ordering;
 use std::process::Abort;
-use std::test::Fail;
 
-fn text(alloc: Global, bytes: &[u8]) -> Result<Value, AllocError> {
-    Ok(Value::Text(Shared::new(alloc, Items::from_slice(alloc, bytes)?)?))
+fn text(alloc: Global, inner: &str) -> Option<Value> {
+    let bytes = Items::from_slice(alloc, inner.as_bytes()).ok()?;
+    Some(Value::Text(Shared::new(alloc, bytes).ok()?))
 }
 
-fn pair(alloc: Global, a: Value, b: Value) -> Result<Value, AllocError> {
-    Ok(Value::Pair(Shared::new(alloc, a)?, Shared::new(alloc, b)?))
+fn pair(alloc: Global, a: Value, b: Value) -> Option<Value> {
+    let a = Shared::new(alloc, a).ok()?;
+    let b = Shared::new(alloc, b).ok()?;
+    Some(Value::Pair(a, b))
 }
 
-fn ints(alloc: Global, numbers: &[i128]) -> Result<Value, AllocError> {
-    let mut items = Vec::new(alloc);
-    for n in numbers {
-        items.push(Value::Int(*n))?;
-    }
-    make_set(alloc, items)
+fn number(text: &str) -> Option<Value> {
+    Some(Value::Int(text.parse::<i128>().ok()?))
 }
 
-/// A set of one member.
-fn only(alloc: Global, member: Value) -> Result<Value, AllocError> {
-    let mut items = Vec::new(alloc);
-    items.push(member)?;
-    make_set(alloc, items)
-}
-
-/// The set of the numbers in a text, with commas between them.
-fn numbers(alloc: Global, text: &str) -> Result<Value, Fail> {
+/// The numbers in a text, with commas between them.
+fn numbers(alloc: Global, text: &str) -> Option<Vec<Value>> {
     let mut items = Vec::new(alloc);
     for n in text.split(',') {
         if !n.is_empty() {
-            items.push(Value::Int(n.parse::<i128>()?))?;
+            items.push(number(n)?).ok()?;
         }
     }
-    Ok(make_set(alloc, items)?)
+    Some(items)
 }
 
-fn couple_of_numbers(alloc: Global, text: &str) -> Result<Value, Fail> {
-    let (a, b) = text.split_once(',').ok_or("a couple of one")?;
-    let a = a.parse::<i128>()?;
-    let b = b.parse::<i128>()?;
-    Ok(pair(alloc, Value::Int(a), Value::Int(b))?)
+fn set(alloc: Global, text: &str) -> Option<Value> {
+    make_set(alloc, numbers(alloc, text)?).ok()
 }
 
-fn couple_of_sets(alloc: Global, text: &str) -> Result<Value, Fail> {
-    let (a, b) = text.split_once('|').ok_or("a couple of one")?;
-    let a = numbers(alloc, a)?;
-    let b = numbers(alloc, b)?;
-    Ok(pair(alloc, a, b)?)
+/// A set of one member.
+fn only(alloc: Global, member: Value) -> Option<Value> {
+    let mut items = Vec::new(alloc);
+    items.push(member).ok()?;
+    make_set(alloc, items).ok()
 }
 
-fn element(text: &str) -> Result<Value, Fail> {
-    let (set, index) = text.split_once('.').ok_or("an element without a place")?;
-    let set = set.parse::<u32>()?;
-    let index = index.parse::<u32>()?;
-    Ok(Value::Elem { set, index })
+fn element(text: &str) -> Option<Value> {
+    let (set, index) = text.split_once('.')?;
+    let set = set.parse::<u32>().ok()?;
+    let index = index.parse::<u32>().ok()?;
+    Some(Value::Elem { set, index })
 }
 
-/// The value of a word: a number `n:7`, a truth value `t:`, a text `x:a`, an element `e:0.5`, a couple of numbers `c:0,9`,
-/// a set of numbers `s:0,1`, a set of one such set `f:0,1`, a couple of such sets `d:0|1`.
-fn value(alloc: Global, word: &str) -> Result<Value, Fail> {
-    let (kind, rest) = word.split_once(':').ok_or("a word without a kind")?;
+/// The value of a word: a number `n:7`, a truth value `t:TRUE`, a text `x:a`, an element `e:0.5`, a couple of numbers
+/// `c:0,9`, a set of numbers `s:0,1`, a set of one such set `f:0,1`, a couple of such sets `d:0|1`. None for want of memory.
+fn value(alloc: Global, word: &str) -> Option<Value> {
+    let (kind, rest) = word.split_once(':')?;
     match kind {
-        "n" => Ok(Value::Int(rest.parse::<i128>()?)),
-        "t" => Ok(Value::Truth(rest == "TRUE")),
-        "x" => Ok(text(alloc, rest.as_bytes())?),
+        "n" => number(rest),
+        "t" => Some(Value::Truth(rest == "TRUE")),
+        "x" => text(alloc, rest),
         "e" => element(rest),
-        "c" => couple_of_numbers(alloc, rest),
-        "s" => numbers(alloc, rest),
-        "f" => Ok(only(alloc, numbers(alloc, rest)?)?),
-        "d" => couple_of_sets(alloc, rest),
-        _ => Err(Fail::from("no kind")),
+        "c" => {
+            let (a, b) = rest.split_once(',')?;
+            pair(alloc, number(a)?, number(b)?)
+        }
+        "s" => set(alloc, rest),
+        "f" => only(alloc, set(alloc, rest)?),
+        "d" => {
+            let (a, b) = rest.split_once('|')?;
+            pair(alloc, set(alloc, a)?, set(alloc, b)?)
+        }
+        _ => None,
     }
 }
 
@@ -114,26 +108,29 @@ f:
 f:0,3
 f:1";
 
-fn ascending(alloc: Global) -> Result<Vec<Value>, Fail> {
+fn ascending(alloc: Global) -> Option<Vec<Value>> {
     let mut table = Vec::new(alloc);
     for word in ASCENDING.lines() {
-        table.push(value(alloc, word)?)?;
+        table.push(value(alloc, word)?).ok()?;
     }
-    Ok(table)
+    Some(table)
+}
+
+/// Whether two values of the table are ordered as their places are.
+fn are_ordered(a: &Value, b: &Value, i: usize, j: usize) -> bool {
+    order(a, b) == i.cmp(&j) && same_value(a, b) == (i == j)
 }
 
 #[test]
-fn orders_all_values(rt: HostRuntime) -> Result<(), Fail> {
-    let table = ascending(rt.alloc())?;
+fn orders_all_values(rt: HostRuntime) {
+    let table = ascending(rt.alloc()).expect(&rt, "memory");
     assert_eq!(rt; table.len(), 29);
     for (i, a) in table.iter().enumerate() {
         for (j, b) in table.iter().enumerate() {
-            assert_eq!(rt; order(a, b), i.cmp(&j), "at {i} and {j}");
-            assert_eq!(rt; same_value(a, b), i == j, "at {i} and {j}");
+            assert!(rt; are_ordered(a, b, i, j), "at {i} and {j}");
         }
     }
     assert_eq!(rt; order_items(table.as_slice(), &[]), Ordering::Greater);
-    Ok(())
 }
 
 /// Values and how many nodes they have.
@@ -144,104 +141,93 @@ s: 1
 s:3,4 3
 d:1,2| 5";
 
-fn check_size(rt: &impl Abort, alloc: Global, line: &str) -> Result<(), Fail> {
-    let (word, want) = line.split_once(' ').ok_or("a line without a size")?;
-    let v = value(alloc, word)?;
-    let want = want.parse::<u64>()?;
-    assert_eq!(rt; nodes(&v), want, "{line}");
-    assert!(rt; fits(&v, want), "{line}");
-    assert!(rt; !fits(&v, want.saturating_sub(1)), "{line}");
-    assert_eq!(rt; spend(&v, want.saturating_add(3)), Some(3), "{line}");
-    Ok(())
+/// Whether a value has so many nodes, by each of the counts.
+fn has_nodes(v: &Value, want: u64) -> bool {
+    nodes(v) == want
+        && fits(v, want)
+        && !fits(v, want.saturating_sub(1))
+        && spend(v, want.saturating_add(3)) == Some(3)
+}
+
+fn check_size(rt: &impl Abort, alloc: Global, line: &str) {
+    let (word, want) = line.split_once(' ').expect(rt, line);
+    let want = want.parse::<u64>().expect(rt, line);
+    let v = value(alloc, word).expect(rt, line);
+    assert!(rt; has_nodes(&v, want), "{line}");
 }
 
 #[test]
-fn counts_nodes(rt: HostRuntime) -> Result<(), Fail> {
+fn counts_nodes(rt: HostRuntime) {
     for line in SIZES.lines() {
-        check_size(&rt, rt.alloc(), line)?;
+        check_size(&rt, rt.alloc(), line);
     }
     assert_eq!(rt; spend_all(&[Value::Int(1), Value::Truth(true)], 1), None);
-    Ok(())
 }
 
 /// A set of 1,000,000 nodes.
-fn largest(alloc: Global) -> Result<Value, AllocError> {
+fn largest(alloc: Global) -> Option<Value> {
     let mut items = Vec::new(alloc);
     for n in 0..999_999u32 {
-        items.push(Value::Int(i128::from(n)))?;
+        items.push(Value::Int(i128::from(n))).ok()?;
     }
-    make_set(alloc, items)
+    make_set(alloc, items).ok()
 }
 
 #[test]
-fn limits_nodes(rt: HostRuntime) -> Result<(), Fail> {
-    let largest = largest(rt.alloc())?;
+fn limits_nodes(rt: HostRuntime) {
+    let largest = largest(rt.alloc()).expect(&rt, "memory");
     assert_eq!(rt; nodes(&largest), NODE_LIMIT);
-    assert!(rt; limited(largest).is_ok());
-    Ok(())
-}
-
-#[test]
-fn refuses_one_node_more(rt: HostRuntime) -> Result<(), Fail> {
-    let couple = pair(rt.alloc(), largest(rt.alloc())?, Value::Int(0))?;
+    let again = largest.share().expect(&rt, "memory");
+    assert!(rt; limited(again).is_ok());
+    let couple = pair(rt.alloc(), largest, Value::Int(0)).expect(&rt, "memory");
     assert!(rt; limited(couple) == Err(FaultKind::TooLarge));
-    Ok(())
 }
 
 #[test]
-fn makes_sets(rt: HostRuntime) -> Result<(), Fail> {
-    let set = ints(rt.alloc(), &[5, 1, 5, 3, 1])?;
-    let same = ints(rt.alloc(), &[1, 3, 5])?;
-    assert!(rt; set == same);
-    assert_eq!(rt; set.members().len(), 3);
+fn makes_sets(rt: HostRuntime) {
+    let made = set(rt.alloc(), "5,1,5,3,1").expect(&rt, "memory");
+    let same = set(rt.alloc(), "1,3,5").expect(&rt, "memory");
+    assert!(rt; made == same);
+    assert_eq!(rt; made.members().len(), 3);
     assert_eq!(rt; Value::Int(3).members().len(), 0);
-    Ok(())
 }
 
 #[test]
-fn finds_members(rt: HostRuntime) -> Result<(), Fail> {
-    let items = set_from(vec![in rt.alloc(); Value::Int(4), Value::Int(2)]?);
+fn finds_members(rt: HostRuntime) {
+    let items = set_from(numbers(rt.alloc(), "4,2").expect(&rt, "memory"));
     assert!(rt; is_member(items.as_slice(), &Value::Int(2)));
     assert!(rt; !is_member(items.as_slice(), &Value::Int(3)));
-    Ok(())
 }
 
 /// Met by what may go between threads.
 fn crosses<T: Send + Sync>(_value: &T) {}
 
 /// A set of two numbers and a truth value, shared.
-fn constants(alloc: Global) -> Result<Items<Value>, AllocError> {
-    let set = ints(alloc, &[1, 2])?;
-    share_all(alloc, &[set, Value::Truth(true)])
+fn constants(alloc: Global) -> Option<Items<Value>> {
+    let set = set(alloc, "1,2")?;
+    crosses(&set);
+    share_all(alloc, &[set, Value::Truth(true)]).ok()
 }
 
 #[test]
-fn a_copied_state_is_the_same(rt: HostRuntime) -> Result<(), Fail> {
-    let running = State::Running(Items::new(rt.alloc()), constants(rt.alloc())?);
-    let copied = running.copy(rt.alloc())?;
+fn copies_states(rt: HostRuntime) {
+    let values = constants(rt.alloc()).expect(&rt, "memory");
+    let running = State::Running(Items::new(rt.alloc()), values);
+    let copied = running.copy(rt.alloc()).expect(&rt, "memory");
     crosses(&copied);
     assert!(rt; same_state(&running, &copied));
-    Ok(())
 }
 
 #[test]
-fn states_of_other_kinds_differ(rt: HostRuntime) -> Result<(), Fail> {
-    let running = State::Running(Items::new(rt.alloc()), constants(rt.alloc())?);
-    let fixed = State::Constants(constants(rt.alloc())?);
+fn tells_states_apart(rt: HostRuntime) {
+    let values = constants(rt.alloc()).expect(&rt, "memory");
+    let running = State::Running(Items::new(rt.alloc()), values);
+    let values = constants(rt.alloc()).expect(&rt, "memory");
+    let fixed = State::Constants(values);
     assert!(rt; !same_state(&running, &fixed));
     assert!(rt; !same_state(&State::Root, &fixed));
-    let copied = fixed.copy(rt.alloc())?;
+    let copied = fixed.copy(rt.alloc()).expect(&rt, "memory");
     assert!(rt; same_state(&fixed, &copied));
-    Ok(())
-}
-
-#[test]
-fn a_shared_value_is_the_same(rt: HostRuntime) -> Result<(), Fail> {
-    let set = ints(rt.alloc(), &[1, 2])?;
-    let shared = set.share()?;
-    crosses(&shared);
-    assert!(rt; same_value(&set, &shared));
-    Ok(())
 }
 
 const PREFS: Prefs = Prefs {
