@@ -4,11 +4,9 @@
 #[cfg(test)]
 mod arithmetic;
 #[cfg(test)]
-mod calls;
+mod expressions;
 #[cfg(test)]
 mod families;
-#[cfg(test)]
-mod laws;
 #[cfg(test)]
 mod making;
 #[cfg(test)]

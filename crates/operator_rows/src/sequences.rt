@@ -1,160 +1,122 @@
 // Operators on sequences.
-ghost use Rattle.std.specs.Prelude.{IfOk};
-ghost use Rattle.b_values.specs.Values.{IsKept};
+use crate::expressions::{check, value};
+use b_setops::is_sequence;
 
-use crate::calls::{
-    One, Two, check_one, check_two, is_too_large, numbered_type, numbers_type, read, relation_type,
-    told,
-};
-use b_setops::{append, concat, is_sequence, prepend, rev, size, take};
-use b_values::{ReadFault, Ty, Value};
-use set_making::OpFault;
-use std::alloc::Global;
-use std::test::Fail;
+const ONE_OPERAND: &str = "size r:[5,6,5];3
+size r:<>;0
+rev r:[5,6,7];{(1|->7),(2|->6),(3|->5)}
+rev r:<>;{}
+first r:[5,6,7];5
+first r:<>;ill-defined
+last r:[5,6,7];7
+last r:<>;ill-defined
+front r:[5,6,7];{(1|->5),(2|->6)}
+front r:[5];{}
+front r:<>;ill-defined
+tail r:[5,6,7];{(1|->6),(2|->7)}
+tail r:[5];{}
+tail r:<>;ill-defined";
 
-const SIZES: &str = "[5,6,5];3
-<>;0";
+const NO_SEQUENCES: &str = "size r:{(1|->5),(3|->6)};ill-defined
+size r:{(1|->5),(1|->6)};ill-defined
+size r:{(0|->5),(1|->6)};ill-defined
+size r:{(2|->5)};ill-defined
+rev r:{(1|->5),(3|->6)};ill-defined
+rev r:{(1|->5),(1|->6)};ill-defined
+rev r:{(0|->5),(1|->6)};ill-defined
+rev r:{(2|->5)};ill-defined
+first r:{(1|->5),(3|->6)};ill-defined
+first r:{(1|->5),(1|->6)};ill-defined
+first r:{(0|->5),(1|->6)};ill-defined
+first r:{(2|->5)};ill-defined
+last r:{(1|->5),(3|->6)};ill-defined
+last r:{(1|->5),(1|->6)};ill-defined
+last r:{(0|->5),(1|->6)};ill-defined
+last r:{(2|->5)};ill-defined
+front r:{(1|->5),(3|->6)};ill-defined
+front r:{(1|->5),(1|->6)};ill-defined
+front r:{(0|->5),(1|->6)};ill-defined
+front r:{(2|->5)};ill-defined
+tail r:{(1|->5),(3|->6)};ill-defined
+tail r:{(1|->5),(1|->6)};ill-defined
+tail r:{(0|->5),(1|->6)};ill-defined
+tail r:{(2|->5)};ill-defined
+size s:{1,2};ill-defined";
 
-const REVERSED: &str = "[5,6,7];{(1|->7),(2|->6),(3|->5)}
-<>;{}";
+const TWO_OPERANDS: &str = "concat r:[5,6] r:[6,7];{(1|->5),(2|->6),(3|->6),(4|->7)}
+concat r:<> r:[5];{(1|->5)}
+concat r:[5] r:<>;{(1|->5)}
+concat r:[5] r:{(2|->6)};ill-defined
+concat r:{(2|->6)} r:[5];ill-defined
+prepend n:4 r:[5,6];{(1|->4),(2|->5),(3|->6)}
+prepend n:4 r:<>;{(1|->4)}
+prepend n:4 r:{(0|->5)};ill-defined
+append r:[5,6] n:4;{(1|->5),(2|->6),(3|->4)}
+append r:<> n:4;{(1|->4)}
+append r:{(0|->5)} n:4;ill-defined
+take r:[5,6,7] n:0;{}
+take r:[5,6,7] n:2;{(1|->5),(2|->6)}
+take r:[5,6,7] n:3;{(1|->5),(2|->6),(3|->7)}
+take r:[5,6,7] n:4;ill-defined
+take r:[5,6,7] n:-1;ill-defined
+take r:{(2|->5)} n:0;ill-defined
+drop_first r:[5,6,7] n:0;{(1|->5),(2|->6),(3|->7)}
+drop_first r:[5,6,7] n:2;{(1|->7)}
+drop_first r:[5,6,7] n:3;{}
+drop_first r:[5,6,7] n:4;ill-defined
+drop_first r:[5,6,7] n:-1;ill-defined
+drop_first r:{(2|->5)} n:0;ill-defined";
 
-const FIRSTS: &str = "[5,6,7];5
-<>;ill-defined";
+const JOINS_OF_LISTS: &str = "conc q:[[5,6],<>,[5]];{(1|->5),(2|->6),(3|->5)}
+conc q:<>;{}
+conc q:[[5],{(2|->6)}];ill-defined
+conc q:{(2|->[5])};ill-defined";
 
-const LASTS: &str = "[5,6,7];7
-<>;ill-defined";
-
-const FRONTS: &str = "[5,6,7];{(1|->5),(2|->6)}
-[5];{}
-<>;ill-defined";
-
-const TAILS: &str = "[5,6,7];{(1|->6),(2|->7)}
-[5];{}
-<>;ill-defined";
-
-#[test]
-fn one_operand(rt: HostRuntime) -> Result<(), Fail> {
-    let alloc = rt.alloc();
-    let numbers = relation_type(alloc)?;
-    check_one(&rt, alloc, One::Size, &numbers, SIZES)?;
-    check_one(&rt, alloc, One::Rev, &numbers, REVERSED)?;
-    check_one(&rt, alloc, One::First, &numbers, FIRSTS)?;
-    check_one(&rt, alloc, One::Last, &numbers, LASTS)?;
-    check_one(&rt, alloc, One::Front, &numbers, FRONTS)?;
-    check_one(&rt, alloc, One::Tail, &numbers, TAILS)
-}
-
-const NO_SEQUENCES: &str = "{(1|->5),(3|->6)};ill-defined
-{(1|->5),(1|->6)};ill-defined
-{(0|->5),(1|->6)};ill-defined
-{(2|->5)};ill-defined";
-
-#[test]
-fn no_sequences(rt: HostRuntime) -> Result<(), Fail> {
-    let alloc = rt.alloc();
-    let numbers = relation_type(alloc)?;
-    for op in [
-        One::Size,
-        One::Rev,
-        One::First,
-        One::Last,
-        One::Front,
-        One::Tail,
-    ] {
-        check_one(&rt, alloc, op, &numbers, NO_SEQUENCES)?;
-    }
-    let sets = numbers_type(alloc)?;
-    check_one(&rt, alloc, One::Size, &sets, "{1,2};ill-defined")?;
-    assert!(rt; !is_sequence(&read(alloc, &sets, "{1,2}")?));
-    assert!(rt; !is_sequence(&read(alloc, &Ty::Int, "5")?));
-    assert!(rt; is_sequence(&read(alloc, &numbers, "[5,6]")?));
-    Ok(())
-}
-
-const JOINED: &str = "[5,6];[6,7];{(1|->5),(2|->6),(3|->6),(4|->7)}
-<>;[5];{(1|->5)}
-[5];<>;{(1|->5)}
-[5];{(2|->6)};ill-defined
-{(2|->6)};[5];ill-defined";
-
-const PREPENDED: &str = "4;[5,6];{(1|->4),(2|->5),(3|->6)}
-4;<>;{(1|->4)}
-4;{(0|->5)};ill-defined";
-
-const APPENDED: &str = "[5,6];4;{(1|->5),(2|->6),(3|->4)}
-<>;4;{(1|->4)}
-{(0|->5)};4;ill-defined";
-
-const TAKEN: &str = "[5,6,7];0;{}
-[5,6,7];2;{(1|->5),(2|->6)}
-[5,6,7];3;{(1|->5),(2|->6),(3|->7)}
-[5,6,7];4;ill-defined
-[5,6,7];-1;ill-defined
-{(2|->5)};0;ill-defined";
-
-const DROPPED: &str = "[5,6,7];0;{(1|->5),(2|->6),(3|->7)}
-[5,6,7];2;{(1|->7)}
-[5,6,7];3;{}
-[5,6,7];4;ill-defined
-[5,6,7];-1;ill-defined
-{(2|->5)};0;ill-defined";
-
-#[test]
-fn two_operands(rt: HostRuntime) -> Result<(), Fail> {
-    let alloc = rt.alloc();
-    let numbers = relation_type(alloc)?;
-    check_two(&rt, alloc, Two::Concat, &numbers, &numbers, JOINED)?;
-    check_two(&rt, alloc, Two::Prepend, &Ty::Int, &numbers, PREPENDED)?;
-    check_two(&rt, alloc, Two::Append, &numbers, &Ty::Int, APPENDED)?;
-    check_two(&rt, alloc, Two::Take, &numbers, &Ty::Int, TAKEN)?;
-    check_two(&rt, alloc, Two::DropFirst, &numbers, &Ty::Int, DROPPED)
-}
-
-const JOINED_LISTS: &str = "[[5,6],<>,[5]];{(1|->5),(2|->6),(3|->5)}
-<>;{}
-[[5],{(2|->6)}];ill-defined
-{(2|->[5])};ill-defined";
-
-#[test]
-fn joins_of_lists(rt: HostRuntime) -> Result<(), Fail> {
-    let alloc = rt.alloc();
-    let lists = numbered_type(alloc, relation_type(alloc)?)?;
-    check_one(&rt, alloc, One::Conc, &lists, JOINED_LISTS)
-}
-
-fn doubled(alloc: Global, s: Value) -> Result<Value, OpFault>
-    requires { IsKept s }
-    ensures { IfOk result (λ v. IsKept v) }
-{
-    concat(alloc, &s, &s)
-}
-
-/// 2^18 numbers.
-fn many(alloc: Global) -> Result<Value, Fail>
-    ensures { IfOk result (λ v. IsKept v) }
-{
-    let mut s = read(alloc, &relation_type(alloc)?, "[7]")?;
-    for _ in 0..18 {
-        s = doubled(alloc, s)?;
-    }
-    Ok(s)
-}
+const LAWS: &str = "rev rev r:[5,6,7] = r:[5,6,7]
+dom concat r:[5,6,7] r:[6,5] = interval n:1 n:5
+size concat r:[5,6,7] r:[6,5] = card concat r:[5,6,7] r:[6,5]
+size concat r:[5,6,7] r:[6,5];5
+card concat r:[5,6,7] r:[6,5];5";
 
 /// A sequence of 333,333 numbers has 1,000,000 nodes.
+const LARGEST: &str =
+    "size concat times interval n:1 n:262144 s:{7} take times interval n:1 n:262144 s:{7} n:71189;333333
+concat times interval n:1 n:262144 s:{7} times interval n:1 n:262144 s:{7};too-large";
+
+const ONE_MORE: &str = "append times interval n:1 n:333333 s:{7} n:7;too-large
+prepend n:7 times interval n:1 n:333333 s:{7};too-large";
+
+const LARGEST_REVERSED: &str =
+    "rev times interval n:1 n:333333 s:{7} = times interval n:1 n:333333 s:{7}";
+
 #[test]
-fn the_limit(rt: HostRuntime) -> Result<(), Fail> {
-    let alloc = rt.alloc();
-    let s = many(alloc)?;
-    let seven = read(alloc, &Ty::Int, "7")?;
-    let more = take(alloc, &s, &read(alloc, &Ty::Int, "71189")?)?;
-    let whole = concat(alloc, &s, &more)?;
-    assert_eq!(rt;
-        told(alloc, size(alloc, &whole))?.as_slice(),
-        b"333333".as_slice()
-    );
-    assert!(rt; is_too_large(append(alloc, &whole, &seven)));
-    assert!(rt; is_too_large(prepend(alloc, &seven, &whole)));
-    assert!(rt; is_too_large(concat(alloc, &s, &s)));
-    assert!(rt; rev(alloc, &whole)? == whole);
-    Ok(())
+fn rows(rt: HostRuntime) {
+    check(&rt, rt.alloc(), ONE_OPERAND);
+    check(&rt, rt.alloc(), NO_SEQUENCES);
+    check(&rt, rt.alloc(), TWO_OPERANDS);
+    check(&rt, rt.alloc(), JOINS_OF_LISTS);
+    check(&rt, rt.alloc(), LAWS);
+}
+
+#[test]
+fn tells_sequences(rt: HostRuntime) {
+    for (text, is) in [("s:{1,2}", false), ("n:5", false), ("r:[5,6]", true)] {
+        let v = value(rt.alloc(), text).expect(&rt, text);
+        assert_eq!(rt; is_sequence(&v), is, "{text}");
+    }
+}
+
+#[test]
+fn reaches_the_limit(rt: HostRuntime) {
+    check(&rt, rt.alloc(), LARGEST);
+}
+
+#[test]
+fn refuses_one_more(rt: HostRuntime) {
+    check(&rt, rt.alloc(), ONE_MORE);
+}
+
+#[test]
+fn reverses_the_largest(rt: HostRuntime) {
+    check(&rt, rt.alloc(), LARGEST_REVERSED);
 }

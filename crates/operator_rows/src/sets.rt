@@ -1,169 +1,80 @@
 // Operators on sets and on sets of numbers.
-ghost use Rattle.std.specs.Prelude.{IfOk};
-ghost use Rattle.b_values.specs.Values.{IsKept};
+use crate::expressions::check;
 
-use crate::calls::{One, Two, apply_two, check_one, check_two, numbers_type, read, set_type, told};
-use b_setops::{card, difference, interval};
-use b_values::{Ty, Value, same_value};
-use set_making::OpFault;
-use std::alloc::Global;
-use std::test::Fail;
+const ONE_OPERAND: &str = "min s:{3};3
+min s:{3,-1,2};-1
+min s:{};ill-defined
+max s:{3};3
+max s:{3,-1,2};3
+max s:{};ill-defined
+card s:{};0
+card s:{7,7};1
+card s:{3,-1,2};3
+big_union f:{};{}
+big_union f:{{}};{}
+big_union f:{{1,2},{2,3},{}};{1,2,3}
+big_inter f:{};ill-defined
+big_inter f:{{}};{}
+big_inter f:{{2,1}};{1,2}
+big_inter f:{{1,2,3},{2,3,4},{3,2}};{2,3}
+big_inter f:{{1,2},{3}};{}";
 
-const LEAST: &str = "{3};3
-{3,-1,2};-1
-{};ill-defined";
+const TWO_OPERANDS: &str = "interval n:1 n:3;{1,2,3}
+interval n:-1 n:1;{-1,0,1}
+interval n:5 n:5;{5}
+interval n:3 n:1;{}
+interval n:1 n:2000000;too-large
+interval n:170141183460469231731687303715884105726 n:170141183460469231731687303715884105727;{170141183460469231731687303715884105726,170141183460469231731687303715884105727}
+interval n:-170141183460469231731687303715884105728 n:170141183460469231731687303715884105727;too-large
+interval n:170141183460469231731687303715884105727 n:-170141183460469231731687303715884105728;{}
+interval t:TRUE t:TRUE;ill-defined
+union s:{} s:{};{}
+union s:{1,3} s:{};{1,3}
+union s:{} s:{1,3};{1,3}
+union s:{1,3,5} s:{2,3};{1,2,3,5}
+union s:{2,3} s:{1,3,5};{1,2,3,5}
+intersect s:{} s:{1};{}
+intersect s:{1} s:{};{}
+intersect s:{1,3,5} s:{2,3,5,6};{3,5}
+intersect s:{2,3,5,6} s:{1,3,5};{3,5}
+intersect s:{1} s:{2};{}
+difference s:{} s:{1};{}
+difference s:{1,2} s:{};{1,2}
+difference s:{1,2,3} s:{2,4};{1,3}
+difference s:{2,4} s:{1,2,3};{4}
+difference s:{1,2} s:{1,2};{}
+times s:{} s:{1};{}
+times s:{1} s:{};{}
+times s:{2,1} s:{4,3};{(1|->3),(1|->4),(2|->3),(2|->4)}";
 
-const GREATEST: &str = "{3};3
-{3,-1,2};3
-{};ill-defined";
-
-const COUNTS: &str = "{};0
-{7,7};1
-{3,-1,2};3";
-
-const UNIONS_OF_ALL: &str = "{};{}
-{{}};{}
-{{1,2},{2,3},{}};{1,2,3}";
-
-const COMMON_TO_ALL: &str = "{};ill-defined
-{{}};{}
-{{2,1}};{1,2}
-{{1,2,3},{2,3,4},{3,2}};{2,3}
-{{1,2},{3}};{}";
-
-const INTERVALS: &str = "1;3;{1,2,3}
--1;1;{-1,0,1}
-5;5;{5}
-3;1;{}
-1;2000000;too-large
-170141183460469231731687303715884105726;170141183460469231731687303715884105727;{170141183460469231731687303715884105726,170141183460469231731687303715884105727}
--170141183460469231731687303715884105728;170141183460469231731687303715884105727;too-large
-170141183460469231731687303715884105727;-170141183460469231731687303715884105728;{}";
-
-const UNIONS: &str = "{};{};{}
-{1,3};{};{1,3}
-{};{1,3};{1,3}
-{1,3,5};{2,3};{1,2,3,5}
-{2,3};{1,3,5};{1,2,3,5}";
-
-const INTERSECTIONS: &str = "{};{1};{}
-{1};{};{}
-{1,3,5};{2,3,5,6};{3,5}
-{2,3,5,6};{1,3,5};{3,5}
-{1};{2};{}";
-
-const DIFFERENCES: &str = "{};{1};{}
-{1,2};{};{1,2}
-{1,2,3};{2,4};{1,3}
-{2,4};{1,2,3};{4}
-{1,2};{1,2};{}";
-
-const PRODUCTS: &str = "{};{1};{}
-{1};{};{}
-{2,1};{4,3};{(1|->3),(1|->4),(2|->3),(2|->4)}";
-
-#[test]
-fn one_operand(rt: HostRuntime) -> Result<(), Fail> {
-    let alloc = rt.alloc();
-    let numbers = numbers_type(alloc)?;
-    let families = set_type(alloc, numbers_type(alloc)?)?;
-    check_one(&rt, alloc, One::Min, &numbers, LEAST)?;
-    check_one(&rt, alloc, One::Max, &numbers, GREATEST)?;
-    check_one(&rt, alloc, One::Card, &numbers, COUNTS)?;
-    check_one(&rt, alloc, One::BigUnion, &families, UNIONS_OF_ALL)?;
-    check_one(&rt, alloc, One::BigInter, &families, COMMON_TO_ALL)
-}
-
-#[test]
-fn two_operands(rt: HostRuntime) -> Result<(), Fail> {
-    let alloc = rt.alloc();
-    let numbers = numbers_type(alloc)?;
-    let truths = "TRUE;TRUE;ill-defined";
-    check_two(&rt, alloc, Two::Interval, &Ty::Int, &Ty::Int, INTERVALS)?;
-    check_two(&rt, alloc, Two::Interval, &Ty::Truth, &Ty::Truth, truths)?;
-    check_two(&rt, alloc, Two::Union, &numbers, &numbers, UNIONS)?;
-    check_two(
-        &rt,
-        alloc,
-        Two::Intersect,
-        &numbers,
-        &numbers,
-        INTERSECTIONS,
-    )?;
-    check_two(&rt, alloc, Two::Difference, &numbers, &numbers, DIFFERENCES)?;
-    check_two(&rt, alloc, Two::Times, &numbers, &numbers, PRODUCTS)
-}
-
-/// The integers from one number to another.
-fn numbers_from(alloc: Global, low: &str, high: &str) -> Result<Value, Fail>
-    ensures { IfOk result (λ v. IsKept v) }
-{
-    let low = read(alloc, &Ty::Int, low)?;
-    let high = read(alloc, &Ty::Int, high)?;
-    Ok(interval(alloc, &low, &high)?)
-}
-
-/// How many members the answer has for two intervals from 1 on, or the name of its fault.
-fn counted(alloc: Global, op: Two, a_high: &str, b_high: &str) -> Result<Vec<u8>, Fail> {
-    let a = numbers_from(alloc, "1", a_high)?;
-    let b = numbers_from(alloc, "0", b_high)?;
-    match apply_two(alloc, op, &a, &b) {
-        Ok(v) => Ok(told(alloc, card(alloc, &v))?),
-        Err(fault) => Ok(told(alloc, Err(fault))?),
-    }
-}
+/// What an answer leaves of a universe is the other operator's answer for what each operand leaves.
+const LAWS: &str =
+    "difference interval n:1 n:3 union s:{} s:{1} = intersect difference interval n:1 n:3 s:{} difference interval n:1 n:3 s:{1}
+difference interval n:1 n:3 intersect s:{} s:{1} = union difference interval n:1 n:3 s:{} difference interval n:1 n:3 s:{1}
+difference interval n:1 n:3 union s:{1,2} s:{2,3} = intersect difference interval n:1 n:3 s:{1,2} difference interval n:1 n:3 s:{2,3}
+difference interval n:1 n:3 intersect s:{1,2} s:{2,3} = union difference interval n:1 n:3 s:{1,2} difference interval n:1 n:3 s:{2,3}
+difference interval n:1 n:3 union s:{1,2,3} s:{2} = intersect difference interval n:1 n:3 s:{1,2,3} difference interval n:1 n:3 s:{2}
+difference interval n:1 n:3 intersect s:{1,2,3} s:{2} = union difference interval n:1 n:3 s:{1,2,3} difference interval n:1 n:3 s:{2}
+difference interval n:1 n:3 union s:{3} s:{1} = intersect difference interval n:1 n:3 s:{3} difference interval n:1 n:3 s:{1}
+difference interval n:1 n:3 intersect s:{3} s:{1} = union difference interval n:1 n:3 s:{3} difference interval n:1 n:3 s:{1}
+difference s:{1,2,3,4,5} union s:{1,3} s:{3,5,7} = intersect difference s:{1,2,3,4,5} s:{1,3} difference s:{1,2,3,4,5} s:{3,5,7}
+difference s:{1,2,3,4,5} union s:{1,3} s:{3,5,7};{2,4}";
 
 /// Nodes are limited, not elements: a set of numbers may have 999,999, a set of couples of numbers 333,333.
-#[test]
-fn refuses_what_is_too_large(rt: HostRuntime) -> Result<(), Fail> {
-    for (op, a_high, b_high, want) in [
-        (Two::Union, "999998", "333333", "999999"),
-        (Two::Union, "999999", "0", "too-large"),
-        (Two::Times, "333333", "0", "333333"),
-        (Two::Times, "333334", "0", "too-large"),
-        (Two::Times, "100000", "100000", "too-large"),
-    ] {
-        let got = counted(rt.alloc(), op, a_high, b_high)?;
-        assert_eq!(rt; got.as_slice(), want.as_bytes());
-    }
-    Ok(())
-}
+const LIMITS: &str = "card union interval n:1 n:999998 interval n:0 n:333333;999999
+union interval n:1 n:999999 interval n:0 n:0;too-large
+card times interval n:1 n:333333 interval n:0 n:0;333333
+times interval n:1 n:333334 interval n:0 n:0;too-large
+times interval n:1 n:100000 interval n:0 n:100000;too-large";
 
-/// Whether what an operator's answer leaves of a universe is the other operator's answer for what each operand leaves.
-fn exchanges(
-    alloc: Global,
-    all: &Value,
-    op: Two,
-    other: Two,
-    a: &Value,
-    b: &Value,
-) -> Result<bool, OpFault>
-    requires all { IsKept all.now }
-    requires left { IsKept a.now }
-    requires right { IsKept b.now }
-{
-    let inner = apply_two(alloc, op, a, b)?;
-    let not_a = difference(alloc, all, a)?;
-    let not_b = difference(alloc, all, b)?;
-    let outer = apply_two(alloc, other, &not_a, &not_b)?;
-    Ok(same_value(&difference(alloc, all, &inner)?, &outer))
+#[test]
+fn rows(rt: HostRuntime) {
+    check(&rt, rt.alloc(), ONE_OPERAND);
+    check(&rt, rt.alloc(), TWO_OPERANDS);
+    check(&rt, rt.alloc(), LAWS);
 }
 
 #[test]
-fn obeys_de_morgan(rt: HostRuntime) -> Result<(), Fail> {
-    let alloc = rt.alloc();
-    let numbers = numbers_type(alloc)?;
-    for (a, b) in [
-        ("{}", "{1}"),
-        ("{1,2}", "{2,3}"),
-        ("{1,2,3}", "{2}"),
-        ("{3}", "{1}"),
-    ] {
-        let a = read(alloc, &numbers, a)?;
-        let b = read(alloc, &numbers, b)?;
-        let all = numbers_from(alloc, "1", "3")?;
-        assert!(rt; exchanges(alloc, &all, Two::Union, Two::Intersect, &a, &b)?);
-        assert!(rt; exchanges(alloc, &all, Two::Intersect, Two::Union, &a, &b)?);
-    }
-    Ok(())
+fn limits(rt: HostRuntime) {
+    check(&rt, rt.alloc(), LIMITS);
 }
