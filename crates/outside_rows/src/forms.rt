@@ -6,194 +6,309 @@ use host_io::{
 use sqlite_items::Items;
 use std::alloc::{AllocError, Global};
 use std::process::Abort;
-use std::test::Fail;
 
-fn document(alloc: Global, name: &[u8], bytes: &[u8]) -> Result<MemDocument, AllocError> {
-    let name = Items::from_slice(alloc, name)?;
-    let bytes = Items::from_slice(alloc, bytes)?;
-    Ok(MemDocument::new(name, bytes))
+fn bytes_of(alloc: Global, text: &str) -> Result<Items<u8>, AllocError> {
+    Items::from_slice(alloc, text.as_bytes())
 }
 
-#[test]
-fn sources(rt: HostRuntime) -> Result<(), Fail> {
-    let alloc = rt.alloc();
-    // the greatest piece, the calls that fail, and each call's bytes, or none where it fails
-    let table: &[(usize, &[u64], &[Option<&[u8]>])] = &[
-        (
-            1,
-            &[],
-            &[
-                Some(b"a"),
-                Some(b"b"),
-                Some(b"c"),
-                Some(b"d"),
-                Some(b"e"),
-                Some(b""),
-                Some(b""),
-            ],
-        ),
-        (3, &[], &[Some(b"abc"), Some(b"de"), Some(b"")]),
-        (9, &[], &[Some(b"abcd"), Some(b"e"), Some(b"")]),
-        (3, &[2], &[Some(b"abc"), None, Some(b"de"), Some(b"")]),
-        (
-            9,
-            &[1, 4],
-            &[None, Some(b"abcd"), Some(b"e"), None, Some(b"")],
-        ),
-    ];
-    for (piece, fails, wants) in table {
-        let bytes = Items::from_slice(alloc, b"abcde")?;
-        let listed = Items::from_slice(alloc, *fails)?;
-        let mut source = MemSource::new(bytes, (*piece).max(1), listed);
-        for want in *wants {
-            let mut into = [b'.'; 4];
-            match source.take(&mut into) {
-                Ok(count) => assert_eq!(rt; into.get(..count), *want, "pieces of {piece}"),
-                Err(Failed) => assert!(rt; want.is_none(), "pieces of {piece}"),
-            }
+fn document(alloc: Global, name: &str, text: &str) -> Result<MemDocument, AllocError> {
+    let name = bytes_of(alloc, name)?;
+    Ok(MemDocument::new(name, bytes_of(alloc, text)?))
+}
+
+/// Takes piece after piece, with commas between them; `!` is a call that fails.
+fn takes(rt: &impl Abort, source: &mut MemSource, wants: &str) {
+    for want in wants.split(',') {
+        let mut into = [b'.'; 4];
+        match source.take(&mut into) {
+            Ok(count) => assert_eq!(rt; into.get(..count), Some(want.as_bytes()), "{wants}"),
+            Err(Failed) => assert_eq!(rt; want, "!", "{wants}"),
         }
-        assert_eq!(rt; source.calls.made, wants.len() as u64);
-        assert_eq!(rt; source.calls.faults, fails.len() as u64);
     }
-    Ok(())
+}
+
+/// A source of five bytes, its greatest piece, the calls that fail, what it gives, and how many calls that is.
+struct Taken {
+    piece: usize,
+    fails: &'static [u64],
+    wants: &'static str,
+    made: u64,
+    faults: u64,
+}
+
+const TAKEN: [Taken; 5] = [
+    Taken {
+        piece: 1,
+        fails: &[],
+        wants: "a,b,c,d,e,,",
+        made: 7,
+        faults: 0,
+    },
+    Taken {
+        piece: 3,
+        fails: &[],
+        wants: "abc,de,",
+        made: 3,
+        faults: 0,
+    },
+    Taken {
+        piece: 9,
+        fails: &[],
+        wants: "abcd,e,",
+        made: 3,
+        faults: 0,
+    },
+    Taken {
+        piece: 3,
+        fails: &[2],
+        wants: "abc,!,de,",
+        made: 4,
+        faults: 1,
+    },
+    Taken {
+        piece: 9,
+        fails: &[1, 4],
+        wants: "!,abcd,e,!,",
+        made: 5,
+        faults: 2,
+    },
+];
+
+fn source(alloc: Global, row: &Taken) -> Result<MemSource, AllocError> {
+    let bytes = bytes_of(alloc, "abcde")?;
+    let fails = Items::from_slice(alloc, row.fails)?;
+    Ok(MemSource::new(bytes, row.piece.max(1), fails))
+}
+
+fn check_source(rt: &impl Abort, alloc: Global, row: &Taken) {
+    let mut source = source(alloc, row).expect(rt, row.wants);
+    takes(rt, &mut source, row.wants);
+    assert_eq!(rt; source.calls.made, row.made, "{}", row.wants);
+    assert_eq!(rt; source.calls.faults, row.faults, "{}", row.wants);
 }
 
 #[test]
-fn sinks(rt: HostRuntime) -> Result<(), Fail> {
-    let alloc = rt.alloc();
-    let mut empty = MemSink::new(alloc, 1, Items::new(alloc))?;
-    assert_eq!(rt; empty.give(b"ab"), Err(Failed));
-    assert_eq!(rt; empty.give(b"a"), Ok(1));
-    assert_eq!(rt; empty.bytes(), b"a".as_slice());
-    let mut sink = MemSink::holding(alloc, b"<", 5, Items::from_slice(alloc, &[2])?)?;
-    // each piece, the answer, what the sink then holds, and the room left
-    let table: &[(&[u8], Result<usize, Failed>, &[u8], usize)] = &[
-        (b"ab", Ok(2), b"<ab", 3),
-        (b"cd", Err(Failed), b"<ab", 3),
-        (b"cd", Ok(2), b"<abcd", 1),
-        (b"xy", Err(Failed), b"<abcd", 1),
-        (b"", Ok(0), b"<abcd", 1),
-        (b"e", Ok(1), b"<abcde", 0),
-        (b"f", Err(Failed), b"<abcde", 0),
-    ];
-    for (piece, want, held, room) in table {
-        assert_eq!(rt; sink.give(*piece), *want);
-        assert_eq!(rt; sink.bytes(), *held);
-        assert_eq!(rt; sink.room, *room);
+fn sources(rt: HostRuntime) {
+    for row in TAKEN.iter() {
+        check_source(&rt, rt.alloc(), row);
+    }
+}
+
+#[test]
+fn a_small_sink(rt: HostRuntime) {
+    let mut sink = MemSink::new(rt.alloc(), 1, Items::new(rt.alloc())).expect(&rt, "a sink");
+    assert_eq!(rt; sink.give(b"ab"), Err(Failed));
+    assert_eq!(rt; sink.give(b"a"), Ok(1));
+    assert_eq!(rt; sink.bytes(), b"a".as_slice());
+}
+
+/// A piece, the answer, what the sink then holds, and the room left.
+struct Given {
+    piece: &'static str,
+    answer: Result<usize, Failed>,
+    held: &'static str,
+    room: usize,
+}
+
+const GIVEN: [Given; 7] = [
+    Given {
+        piece: "ab",
+        answer: Ok(2),
+        held: "<ab",
+        room: 3,
+    },
+    Given {
+        piece: "cd",
+        answer: Err(Failed),
+        held: "<ab",
+        room: 3,
+    },
+    Given {
+        piece: "cd",
+        answer: Ok(2),
+        held: "<abcd",
+        room: 1,
+    },
+    Given {
+        piece: "xy",
+        answer: Err(Failed),
+        held: "<abcd",
+        room: 1,
+    },
+    Given {
+        piece: "",
+        answer: Ok(0),
+        held: "<abcd",
+        room: 1,
+    },
+    Given {
+        piece: "e",
+        answer: Ok(1),
+        held: "<abcde",
+        room: 0,
+    },
+    Given {
+        piece: "f",
+        answer: Err(Failed),
+        held: "<abcde",
+        room: 0,
+    },
+];
+
+fn check_given(rt: &impl Abort, sink: &mut MemSink, row: &Given) {
+    assert_eq!(rt;
+        sink.give(row.piece.as_bytes()),
+        row.answer,
+        "{}",
+        row.piece
+    );
+    assert_eq!(rt; sink.bytes(), row.held.as_bytes());
+    assert_eq!(rt; sink.room, row.room);
+}
+
+#[test]
+fn sinks(rt: HostRuntime) {
+    let fails = Items::from_slice(rt.alloc(), &[2]).expect(&rt, "memory");
+    let mut sink = MemSink::holding(rt.alloc(), b"<", 5, fails).expect(&rt, "a sink");
+    for row in GIVEN.iter() {
+        check_given(&rt, &mut sink, row);
     }
     assert_eq!(rt; sink.calls.made, 7);
     assert_eq!(rt; sink.calls.faults, 3);
-    Ok(())
 }
 
-// A call of a cabinet, and its answer.
-enum Call<'a> {
-    Load(&'a [u8], u64, Result<&'a [u8], CabinetFault>),
-    Store(&'a [u8], &'a [u8], u64, Result<(), CabinetFault>),
-}
-
-fn calls(rt: &impl Abort, alloc: Global, cabinet: &mut MemCabinet, table: &[Call]) {
-    for call in table {
-        match call {
-            Call::Load(name, limit, want) => match cabinet.load(alloc, *name, *limit) {
-                Ok(bytes) => assert_eq!(rt; Ok(bytes.as_slice()), *want),
-                Err(fault) => assert_eq!(rt; Err(fault), *want),
-            },
-            Call::Store(name, bytes, limit, want) => {
-                assert_eq!(rt; cabinet.store(alloc, *name, *bytes, *limit), *want)
-            }
-        }
+fn fault_text(fault: CabinetFault) -> &'static str {
+    match fault {
+        CabinetFault::Failed => "!failed",
+        CabinetFault::TooLong => "!too-long",
+        CabinetFault::Memory => "!memory",
     }
 }
 
-#[test]
-fn cabinets(rt: HostRuntime) -> Result<(), Fail> {
-    let alloc = rt.alloc();
-    let mut documents = Items::new(alloc);
-    documents.push(document(alloc, b"x", b"12345")?)?;
-    documents.push(document(alloc, b"y", b"678")?)?;
-    let mut cabinet = MemCabinet::new(documents, Items::from_slice(alloc, &[6])?);
-    let table: &[Call] = &[
-        Call::Load(b"x", 5, Ok(b"12345")),
-        Call::Load(b"x", 4, Err(CabinetFault::TooLong)),
-        Call::Load(b"z", 9, Err(CabinetFault::Failed)),
-        Call::Store(b"z", b"abc", 3, Ok(())),
-        Call::Store(b"y", b"abcd", 3, Err(CabinetFault::TooLong)),
-        Call::Store(b"x", b"new", 9, Err(CabinetFault::Failed)),
-        Call::Load(b"y", 9, Ok(b"678")),
-        Call::Load(b"z", 9, Ok(b"abc")),
-    ];
-    calls(&rt, alloc, &mut cabinet, table);
-    let told = cabinet.document(b"x").map(|document| document.told);
-    assert_eq!(rt; told, Some(false));
-    let again: &[Call] = &[
-        Call::Store(b"x", b"again", 9, Ok(())),
-        Call::Load(b"x", 9, Ok(b"again")),
-    ];
-    calls(&rt, alloc, &mut cabinet, again);
-    assert_eq!(rt; (cabinet.calls.made, cabinet.calls.faults), (10, 2));
-    Ok(())
+/// Asserts what a document was read as, or why it wasn't.
+fn answers(rt: &impl Abort, found: Result<Vec<u8>, CabinetFault>, want: &str, line: &str) {
+    match found {
+        Ok(bytes) => assert_eq!(rt; bytes.as_slice(), want.as_bytes(), "{line}"),
+        Err(fault) => assert_eq!(rt; fault_text(fault), want, "{line}"),
+    }
 }
 
-fn opener(alloc: Global) -> Result<MemOpener, AllocError> {
+/// Asserts that a document was stored, or why it wasn't.
+fn stored(rt: &impl Abort, found: Result<(), CabinetFault>, want: &str, line: &str) {
+    match found {
+        Ok(()) => assert_eq!(rt; "stored", want, "{line}"),
+        Err(fault) => assert_eq!(rt; fault_text(fault), want, "{line}"),
+    }
+}
+
+/// A call of a cabinet, and its answer: a limit, a name, and behind a sign what is stored or what is read.
+fn call(rt: &impl Abort, alloc: Global, cabinet: &mut MemCabinet, line: &str) {
+    let (call, want) = line.split_once('@').expect(rt, line);
+    let (limit, call) = call.split_once(' ').expect(rt, line);
+    let limit = limit.parse::<u64>().expect(rt, line);
+    match call.split_once('=') {
+        Some((name, bytes)) => {
+            let found = cabinet.store(alloc, name.as_bytes(), bytes.as_bytes(), limit);
+            stored(rt, found, want, line);
+        }
+        None => answers(rt, cabinet.load(alloc, call.as_bytes(), limit), want, line),
+    }
+}
+
+fn calls(rt: &impl Abort, alloc: Global, cabinet: &mut MemCabinet, table: &str) {
+    for line in table.lines() {
+        call(rt, alloc, cabinet, line);
+    }
+}
+
+/// A cabinet of two documents, whose sixth call fails.
+fn cabinet(alloc: Global) -> Result<MemCabinet, AllocError> {
     let mut documents = Items::new(alloc);
-    documents.push(document(alloc, b"m", b"mm")?)?;
+    documents.push(document(alloc, "x", "12345")?)?;
+    documents.push(document(alloc, "y", "678")?)?;
+    Ok(MemCabinet::new(documents, Items::from_slice(alloc, &[6])?))
+}
+
+const CALLS: &str = "5 x@12345
+4 x@!too-long
+9 z@!failed
+3 z=abc@stored
+3 y=abcd@!too-long
+9 x=new@!failed
+9 y@678
+9 z@abc";
+
+const LATER_CALLS: &str = "9 x=again@stored
+9 x@again";
+
+#[test]
+fn cabinets(rt: HostRuntime) {
+    let mut cabinet = cabinet(rt.alloc()).expect(&rt, "a cabinet");
+    calls(&rt, rt.alloc(), &mut cabinet, CALLS);
+    let told = cabinet.document(b"x").map(|document| document.told);
+    assert_eq!(rt; told, Some(false));
+    calls(&rt, rt.alloc(), &mut cabinet, LATER_CALLS);
+    assert_eq!(rt; (cabinet.calls.made, cabinet.calls.faults), (10, 2));
+}
+
+/// A session whose second take, first give and second call of the cabinet fail.
+fn session(alloc: Global) -> Result<MemSession, AllocError> {
     let mut kept = Items::new(alloc);
-    kept.push(document(alloc, b"d", b"trace")?)?;
-    let mut sessions = Items::new(alloc);
-    sessions.push(MemSession {
-        name: Items::from_slice(alloc, b"s")?,
-        source: Items::from_slice(alloc, b"back\n")?,
+    kept.push(document(alloc, "d", "trace")?)?;
+    Ok(MemSession {
+        name: bytes_of(alloc, "s")?,
+        source: bytes_of(alloc, "back\n")?,
         piece: 0,
         source_fails: Items::from_slice(alloc, &[2])?,
-        sink: Items::from_slice(alloc, b">")?,
+        sink: bytes_of(alloc, ">")?,
         room: 3,
         sink_fails: Items::from_slice(alloc, &[1])?,
         documents: kept,
         cabinet_fails: Items::from_slice(alloc, &[2])?,
-    })?;
+    })
+}
+
+/// An opener of one document and one session, whose third call fails.
+fn opener(alloc: Global) -> Result<MemOpener, AllocError> {
+    let mut documents = Items::new(alloc);
+    documents.push(document(alloc, "m", "mm")?)?;
+    let mut sessions = Items::new(alloc);
+    sessions.push(session(alloc)?)?;
     Ok(MemOpener::new(documents, sessions, Items::from_slice(alloc, &[3])?))
 }
 
-// Uses the desk of the session: what it reads and writes, with the calls that fail.
+const LOADS: &str = "5 d@trace
+5 d@!failed";
+
+/// Uses the desk of the session: what it reads and writes, with the calls that fail.
 fn uses_desk(rt: &impl Abort, alloc: Global, mut desk: Desk<MemSource, MemSink, MemCabinet>) {
-    let takes: &[Result<usize, Failed>] = &[Ok(1), Err(Failed), Ok(1)];
-    for want in takes {
-        assert_eq!(rt; desk.source.take(&mut [b'.'; 4]), *want);
-    }
-    let gives: &[Result<usize, Failed>] = &[Err(Failed), Ok(3)];
-    for want in gives {
-        assert_eq!(rt; desk.sink.give(b"ok\n"), *want);
-    }
+    takes(rt, &mut desk.source, "b,!,a");
+    assert_eq!(rt; desk.sink.give(b"ok\n"), Err(Failed));
+    assert_eq!(rt; desk.sink.give(b"ok\n"), Ok(3));
     assert_eq!(rt; desk.sink.bytes(), b">ok\n".as_slice());
-    let loads: &[Call] = &[
-        Call::Load(b"d", 5, Ok(b"trace")),
-        Call::Load(b"d", 5, Err(CabinetFault::Failed)),
-    ];
-    calls(rt, alloc, &mut desk.cabinet, loads);
+    calls(rt, alloc, &mut desk.cabinet, LOADS);
+}
+
+const DOCUMENTS: &str = "2 m@mm
+1 m@!too-long
+2 m@!failed
+2 s@!failed";
+
+fn opens(rt: &impl Abort, alloc: Global, opener: &mut MemOpener, line: &str) {
+    let (call, want) = line.split_once('@').expect(rt, line);
+    let (limit, name) = call.split_once(' ').expect(rt, line);
+    let limit = limit.parse::<u64>().expect(rt, line);
+    answers(rt, opener.document(alloc, name, limit), want, line);
 }
 
 #[test]
-fn openers(rt: HostRuntime) -> Result<(), Fail> {
-    let alloc = rt.alloc();
-    let mut opener = opener(alloc)?;
-    let table: &[(&str, u64, Result<&[u8], CabinetFault>)] = &[
-        ("m", 2, Ok(b"mm")),
-        ("m", 1, Err(CabinetFault::TooLong)),
-        ("m", 2, Err(CabinetFault::Failed)),
-        ("s", 2, Err(CabinetFault::Failed)),
-    ];
-    for (name, limit, want) in table {
-        match opener.document(alloc, *name, *limit) {
-            Ok(bytes) => assert_eq!(rt; Ok(bytes.as_slice()), *want),
-            Err(fault) => assert_eq!(rt; Err(fault), *want),
-        }
+fn openers(rt: HostRuntime) {
+    let mut opener = opener(rt.alloc()).expect(&rt, "an opener");
+    for line in DOCUMENTS.lines() {
+        opens(&rt, rt.alloc(), &mut opener, line);
     }
-    assert!(rt; opener.session(alloc, "m").is_err());
-    match opener.session(alloc, "s") {
-        Ok(desk) => uses_desk(&rt, alloc, desk),
-        Err(fault) => panic!(rt; "{fault:?}"),
-    }
+    assert!(rt; opener.session(rt.alloc(), "m").is_err());
+    let desk = opener.session(rt.alloc(), "s").expect(&rt, "a session");
+    uses_desk(&rt, rt.alloc(), desk);
     assert_eq!(rt; (opener.calls.made, opener.calls.faults), (6, 3));
-    Ok(())
 }
