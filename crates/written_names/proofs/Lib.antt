@@ -1,0 +1,2 @@
+-- Lemmas on names.
+pub mod Which

@@ -1,0 +1,5 @@
+-- What substitutions write.
+pub mod Names
+pub mod Targets
+pub mod Doubles
+pub mod Machines
