@@ -44,6 +44,14 @@ either_comm p q = fun_ext (λ x. cases (p x) (q x))
     cases false true = refl
     cases false false = refl
 
+pub both-none : (p : Which) → both p none ≡ none
+unfolding both none
+both-none p = fun_ext (λ x. cases (p x))
+  where
+    cases : (a : Bool) → (a && false) ≡ false
+    cases true = refl
+    cases false = refl
+
 -- ---- lists
 
 pub among-none : among [] ≡ none
@@ -73,6 +81,38 @@ adding p x xs =
 pub added_all : (p : Which) (xs : List (List ℕ)) → added p xs ≡ either p (among xs)
 added_all p [] = sym (ap (either p) among-none ∙ either-none p)
 added_all p (x ∷ xs) = added_all (either (among (x ∷ [])) p) xs ∙ sym (adding p x xs)
+
+-- a list with one more name
+pub among-push : (xs : List (List ℕ)) (x : List ℕ) → among (xs ++ x ∷ []) ≡ either (among xs) (among (x ∷ []))
+among-push xs x = among-append xs (x ∷ [])
+
+-- a test of names goes by their bytes
+same_answer : (p : Which) (x y : List ℕ) → bytes_eq y x ≡ true → p y ≡ p x
+same_answer p x y e = ap p ((bytes_decides y x).0 e)
+
+and_false : (a : Bool) → (a && false) ≡ false
+and_false true = refl
+and_false false = refl
+
+one_passes : (p : Which) (x y : List ℕ) (fs xs : List (List ℕ)) (t : Bool) → p x ≡ t → (e : Bool) → bytes_eq y x ≡ e → list_any (bytes_eq y) fs ≡ (list_any (bytes_eq y) xs && p y)
+    → list_any (bytes_eq y) (cond t (x ∷ fs) fs) ≡ ((e || list_any (bytes_eq y) xs) && p y)
+one_passes p x y fs xs true h true e rest = ap (λ b. b || list_any (bytes_eq y) fs) e ∙ sym (same_answer p x y e ∙ h)
+one_passes p x y fs xs true h false e rest = ap (λ b. b || list_any (bytes_eq y) fs) e ∙ rest
+one_passes p x y fs xs false h true e rest =
+    rest
+    ∙ ap (λ b. list_any (bytes_eq y) xs && b) (same_answer p x y e ∙ h)
+    ∙ and_false (list_any (bytes_eq y) xs)
+    ∙ sym (same_answer p x y e ∙ h)
+one_passes p x y fs xs false h false e rest = rest
+
+among_filter_at : (p : Which) (xs : List (List ℕ)) (y : List ℕ) → list_any (bytes_eq y) (filter p xs) ≡ (list_any (bytes_eq y) xs && p y)
+among_filter_at p [] y = refl
+among_filter_at p (x ∷ xs) y = one_passes p x y (filter p xs) xs (p x) refl (bytes_eq y x) refl (among_filter_at p xs y)
+
+-- the names of a list that pass a test
+pub among-filter : (p : Which) (xs : List (List ℕ)) → among (filter p xs) ≡ both (among xs) p
+unfolding among both
+among-filter p xs = fun_ext (λ y. among_filter_at p xs y)
 
 -- ---- sets
 
@@ -110,5 +150,8 @@ putting n m name h = fun_ext (λ x. h x ∙ cases (bytes_eq x name) (in_set n.se
 -- what gathering names takes
 pub ruleset gathers = (either-none, none-either, among-none, adding)
 
--- what two lists one behind the other have
+pub ruleset of_nothing = (among-none, both-none)
+
 pub ruleset joins = (among-append)
+
+pub ruleset keeps = (among-filter)
