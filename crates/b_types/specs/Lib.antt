@@ -1,0 +1,4 @@
+pub mod Typings
+pub mod Known
+pub mod Machines
+pub mod Formulas
