@@ -215,8 +215,8 @@ fn set_between(
     ensures value { let s = sides_of limit sides.now in Means (bind (s.left.value (slots_of env.now)) (λ x. bind (s.right.value (slots_of env.now)) (λ y. placed at (set_row op x y)))) result }
     ensures kept { IfOk result (λ v. IsKept v) }
 {
-    let x = eval_in(alloc, &sides.left, limit, env)?;
-    let y = eval_in(alloc, &sides.right, limit, env)?;
+    let x = eval_in(alloc, sides.left.get(), limit, env)?;
+    let y = eval_in(alloc, sides.right.get(), limit, env)?;
     set(alloc, op, at, &x, &y)
 }
 
@@ -353,8 +353,8 @@ fn is_couple(
     requires { AllByRecursion IsKept (slots_of env.now) }
     ensures { Means (spec.is_couple (sides_of limit sides.now) v.now (slots_of env.now)) result }
 {
-    if member_in(alloc, &sides.left, first_part(v), limit, env)? {
-        member_in(alloc, &sides.right, second_part(v), limit, env)
+    if member_in(alloc, sides.left.get(), first_part(v), limit, env)? {
+        member_in(alloc, sides.right.get(), second_part(v), limit, env)
     } else {
         Ok(false)
     }
@@ -398,8 +398,8 @@ fn is_set_between(
 {
     match op {
         SetOperator::Interval => {
-            let x = eval_in(alloc, &sides.left, limit, env)?;
-            let y = eval_in(alloc, &sides.right, limit, env)?;
+            let x = eval_in(alloc, sides.left.get(), limit, env)?;
+            let y = eval_in(alloc, sides.right.get(), limit, env)?;
             Ok(is_between(&x, &y, v))
         }
         SetOperator::Product => is_couple(alloc, sides, v, limit, env),
@@ -502,8 +502,8 @@ fn is_arrow(
         Err(_) => Err(EvalStop::Memory),
         Ok(false) => Ok(false),
         Ok(true) => {
-            if is_total(alloc, &sides.left, op, v, limit, env)? {
-                is_onto(alloc, &sides.right, op, v, limit, env)
+            if is_total(alloc, sides.left.get(), op, v, limit, env)? {
+                is_onto(alloc, sides.right.get(), op, v, limit, env)
             } else {
                 Ok(false)
             }
@@ -1067,30 +1067,30 @@ fn range_of(alloc: Global, v: &Variable, limit: u64, env: &Scope<'_>) -> Result<
     ensures kept { IfOk result (λ r. AllByRecursion IsKept (left_in r)) }
 {
     match &v.plan {
-        Plan::Only(e) => match eval_in(alloc, e, limit, env) {
+        Plan::Only(e) => match eval_in(alloc, e.get(), limit, env) {
             Ok(x) => Ok(Range::One(x)),
             Err(s) => Err(s),
         },
-        Plan::Members(e) => match eval_in(alloc, e, limit, env) {
+        Plan::Members(e) => match eval_in(alloc, e.get(), limit, env) {
             Ok(x) => Ok(members_of(x)),
             Err(s) => Err(s),
         },
         Plan::Numbers(bounds, e, f) => {
             if bounds.upper_first {
-                let y = eval_in(alloc, f, limit, env)?;
-                let x = eval_in(alloc, e, limit, env)?;
+                let y = eval_in(alloc, f.get(), limit, env)?;
+                let x = eval_in(alloc, e.get(), limit, env)?;
                 numbers_between(v.at, *bounds, &x, &y)
             } else {
-                let x = eval_in(alloc, e, limit, env)?;
-                let y = eval_in(alloc, f, limit, env)?;
+                let x = eval_in(alloc, e.get(), limit, env)?;
+                let y = eval_in(alloc, f.get(), limit, env)?;
                 numbers_between(v.at, *bounds, &x, &y)
             }
         }
-        Plan::Subsets(e) => match eval_in(alloc, e, limit, env) {
+        Plan::Subsets(e) => match eval_in(alloc, e.get(), limit, env) {
             Ok(x) => subsets(alloc, v.at, &x),
             Err(s) => Err(s),
         },
-        Plan::Cut(e) => match eval_in(alloc, e, limit, env) {
+        Plan::Cut(e) => match eval_in(alloc, e.get(), limit, env) {
             Ok(x) => Ok(members_of(x)),
             Err(s) => Err(moved(s, v.at)),
         },

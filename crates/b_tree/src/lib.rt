@@ -60,9 +60,9 @@ pub enum ExprTree {
     /// `IF P THEN E ELSE F END`
     If(Boxed<PredTree>, Boxed<ExprTree>, Boxed<ExprTree>),
     /// `{x,y | P}`
-    Comprehension(Place, Boxed<Binder>),
+    Comprehension(Place, Shared<Binder>),
     /// `%x.(P | E)` and its kin
-    Collected(Collector, Place, Boxed<Collection>),
+    Collected(Collector, Place, Shared<Collection>),
 }
 
 /// An operator and its right operand.
@@ -86,8 +86,8 @@ pub struct Power {
 #[cycle(tree)]
 #[derive(Drop)]
 pub struct Sides {
-    pub left: ExprTree,
-    pub right: ExprTree,
+    pub left: Shared<ExprTree>,
+    pub right: Shared<ExprTree>,
 }
 
 /// A predicate. Connectives of one priority are one node.
@@ -96,16 +96,16 @@ pub struct Sides {
 pub enum PredTree {
     /// What stands for a predicate that is absent.
     True,
-    Compare(Comparison, Boxed<ExprTree>, Boxed<ExprTree>),
+    Compare(Comparison, Shared<ExprTree>, Shared<ExprTree>),
     /// `:` and `<:`, which are tested by the form of the right side
-    Member(Membership, Boxed<ExprTree>, Boxed<ExprTree>),
+    Member(Membership, Shared<ExprTree>, Shared<ExprTree>),
     Chain(Boxed<PredTree>, Items<Clause>),
     /// `not(P)`
     Not(Boxed<PredTree>),
     /// `#x.(P)`
-    Exists(Boxed<Binder>),
+    Exists(Shared<Binder>),
     /// `!x.(P => Q)`
-    ForAll(Boxed<Universal>),
+    ForAll(Shared<Universal>),
 }
 
 /// A connective and its right side.
@@ -156,16 +156,16 @@ pub struct Variable {
 #[derive(Drop)]
 pub enum Plan {
     /// `x = E`
-    Only(ExprTree),
+    Only(Shared<ExprTree>),
     /// `x : E`: the members of E's value.
-    Members(ExprTree),
+    Members(Shared<ExprTree>),
     /// The integers between two bounds, none of them built. A cut range of integers is one of two numbers.
-    Numbers(Bounds, ExprTree, ExprTree),
+    Numbers(Bounds, Shared<ExprTree>, Shared<ExprTree>),
     /// `x <: E`: the subsets of E's value. That they are too many is a fault of the name.
-    Subsets(ExprTree),
+    Subsets(Shared<ExprTree>),
     /// The members of E's value, all of whose faults are faults of the name: a set with its infinite words cut, or all
     /// values of a type. `seq(S)` cut to a length is `UNION(n).(n : 0..length | 1..n --> S)`.
-    Cut(ExprTree),
+    Cut(Shared<ExprTree>),
 }
 
 /// What the two bounds of a range of integers are.

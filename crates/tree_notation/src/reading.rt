@@ -64,6 +64,11 @@ fn take_box(r: &mut Reader) -> Result<Boxed<ExprTree>, AllocError> {
     Boxed::new(r.alloc, e)
 }
 
+fn take_shared(r: &mut Reader) -> Result<Shared<ExprTree>, AllocError> {
+    let e = take(r)?;
+    Shared::new(r.alloc, e)
+}
+
 fn take_pred_box(r: &mut Reader) -> Result<Boxed<PredTree>, AllocError> {
     let p = take_pred(r)?;
     Boxed::new(r.alloc, p)
@@ -189,8 +194,8 @@ fn put_family(r: &mut Reader, f: Family, at: Place) -> Step {
 }
 
 fn put_between(r: &mut Reader, op: SetOperator, at: Place) -> Step {
-    let right = take(r)?;
-    let left = take(r)?;
+    let right = take_shared(r)?;
+    let left = take_shared(r)?;
     let sides = Boxed::new(r.alloc, Sides { left, right })?;
     put(r, ExprTree::Between(op, at, sides))
 }
@@ -246,15 +251,15 @@ fn put_numbers(r: &mut Reader, word: &str, at: Place) -> Result<bool, AllocError
     match operators::bounds(word) {
         None => Ok(false),
         Some(bounds) => {
-            let upper = take(r)?;
-            let lower = take(r)?;
+            let upper = take_shared(r)?;
+            let lower = take_shared(r)?;
             put_variable(r, Plan::Numbers(bounds, lower, upper), at)?;
             Ok(true)
         }
     }
 }
 
-fn plan_of(word: &str, e: ExprTree) -> Plan {
+fn plan_of(word: &str, e: Shared<ExprTree>) -> Plan {
     match word {
         "only" => Plan::Only(e),
         "in" => Plan::Members(e),
@@ -266,7 +271,7 @@ fn plan_of(word: &str, e: ExprTree) -> Plan {
 fn range(r: &mut Reader, word: &str, at: Place) -> Result<bool, AllocError> {
     match word {
         "only" | "in" | "sub" | "cut" => {
-            let e = take(r)?;
+            let e = take_shared(r)?;
             put_variable(r, plan_of(word, e), at)?;
             Ok(true)
         }
@@ -286,41 +291,41 @@ pub fn take_binder(r: &mut Reader, n: u64) -> Result<Binder, AllocError> {
 
 fn put_comprehension(r: &mut Reader, n: u64, at: Place) -> Step {
     let binder = take_binder(r, n)?;
-    let binder = Boxed::new(r.alloc, binder)?;
+    let binder = Shared::new(r.alloc, binder)?;
     put(r, ExprTree::Comprehension(at, binder))
 }
 
 fn put_exists(r: &mut Reader, n: u64) -> Step {
     let binder = take_binder(r, n)?;
-    let binder = Boxed::new(r.alloc, binder)?;
+    let binder = Shared::new(r.alloc, binder)?;
     put_pred(r, PredTree::Exists(binder))
 }
 
 fn put_for_all(r: &mut Reader, n: u64) -> Step {
     let consequent = take_pred(r)?;
     let binder = take_binder(r, n)?;
-    let universal = Boxed::new(r.alloc, Universal { binder, consequent })?;
+    let universal = Shared::new(r.alloc, Universal { binder, consequent })?;
     put_pred(r, PredTree::ForAll(universal))
 }
 
 fn put_collected(r: &mut Reader, c: Collector, n: u64, at: Place) -> Step {
     let value = take(r)?;
     let binder = take_binder(r, n)?;
-    let collection = Boxed::new(r.alloc, Collection { binder, value })?;
+    let collection = Shared::new(r.alloc, Collection { binder, value })?;
     put(r, ExprTree::Collected(c, at, collection))
 }
 
 // ---- predicates
 
 fn put_compare(r: &mut Reader, op: Comparison) -> Step {
-    let b = take_box(r)?;
-    let a = take_box(r)?;
+    let b = take_shared(r)?;
+    let a = take_shared(r)?;
     put_pred(r, PredTree::Compare(op, a, b))
 }
 
 fn put_member(r: &mut Reader, op: Membership) -> Step {
-    let b = take_box(r)?;
-    let a = take_box(r)?;
+    let b = take_shared(r)?;
+    let a = take_shared(r)?;
     put_pred(r, PredTree::Member(op, a, b))
 }
 
@@ -549,7 +554,7 @@ pub fn expr_of(alloc: Global, notation: &str) -> Result<ExprTree, AllocError> {
 }
 
 /// The binder of a `#`.
-pub fn binder_of(alloc: Global, notation: &str) -> Result<Boxed<Binder>, AllocError> {
+pub fn binder_of(alloc: Global, notation: &str) -> Result<Shared<Binder>, AllocError> {
     match tree_of(alloc, notation)? {
         FormulaTree::Pred(PredTree::Exists(b)) => Ok(b),
         _ => Err(UNREAD),
