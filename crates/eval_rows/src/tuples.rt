@@ -9,7 +9,7 @@ use b_places::{Scope, Walk, begun, couple_of};
 use b_rows::EvalStop;
 use b_tree::Binder;
 use b_values::{EvalFault, Face, Value, write_value};
-use sqlite_items::Boxed;
+use shared::Shared;
 use std::alloc::{AllocError, Global};
 use std::process::Abort;
 use std::test::Fail;
@@ -86,7 +86,7 @@ fn check_places(
 }
 
 // The first name goes over 0 to 2; the range of the second is 2 at 0, faults at 1 and is -2 at 2.
-fn faulty_at_one(alloc: Global) -> Result<Boxed<Binder>, AllocError> {
+fn faulty_at_one(alloc: Global) -> Result<Shared<Binder>, AllocError> {
     binder_of(alloc, "0 2 num 2 1 s0 - /'a only T #2")
 }
 
