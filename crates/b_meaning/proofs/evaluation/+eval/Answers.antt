@@ -12,6 +12,7 @@ use Rattle.b_rows.specs.Answers.{placed, Means}
 use Rattle.b_rows.specs.Tests.{part}
 use Rattle.b_rows.specs.Rows.{partial_result}
 use Rattle.b_tree.specs.declared.Binder.{out-Binder}
+use Rattle.b_tree.specs.declared.ExprTree.{ExprTree}
 use Rattle.b_tree.specs.declared.Variable.{Variable}
 use Rattle.b_tree.specs.declared.operators.Membership.{Membership}
 use Rattle.b_values.specs.Values.{IsKept}
@@ -254,4 +255,5 @@ passes-returns-in-NotSubset t c =
 
 pub range_of-returns-in-Err-eval_in-3-clause-value : goal.range_of-returns-in-Err-eval_in-3-clause-value
 range_of-returns-in-Err-eval_in-3-clause-value t c =
-    cut_stops left_in c.args.limit c.args.v.now c.in-Cut.e (slots_of c.args.env.now) c.moved.result c.in-Cut.is (c.moved.ensures (value_of c.args.limit c.in-Cut.e (slots_of c.args.env.now)) c.in-Err-eval_in-3.ensures.value)
+    cut_stops left_in c.args.limit c.args.v.now c.in-Cut.e (slots_of c.args.env.now) c.moved.result c.in-Cut.is (c.moved.ensures (value_of c.args.limit c.in-Cut.e (slots_of c.args.env.now))
+    (subst (λ (e : ExprTree). Means (value_of c.args.limit e (slots_of c.args.env.now)) (Err c.in-Err-eval_in-3.s)) c.get-in-Cut.ensures c.in-Err-eval_in-3.ensures.value))
