@@ -60,16 +60,17 @@ fn prints(rt: &impl Abort, alloc: Global, formula: Formula, text: &[u8]) -> Resu
     Ok(())
 }
 
-fn collected(alloc: Global, collector: Collector) -> Result<Formula, AllocError> {
+// x : 1 .. 2
+fn within(alloc: Global) -> Result<Formula, AllocError> {
     let interval = two(alloc, number(1), Operator::Interval, number(2))?;
-    let member = two(alloc, name(alloc, b"x")?, Operator::Member, interval)?;
-    Ok(Formula::Collected(
-        HERE,
-        collector,
-        bound(alloc, &[b"x"])?,
-        Boxed::new(alloc, member)?,
-        Boxed::new(alloc, name(alloc, b"x")?)?,
-    ))
+    two(alloc, name(alloc, b"x")?, Operator::Member, interval)
+}
+
+fn collected(alloc: Global, collector: Collector) -> Result<Formula, AllocError> {
+    let names = bound(alloc, &[b"x"])?;
+    let test = Boxed::new(alloc, within(alloc)?)?;
+    let value = Boxed::new(alloc, name(alloc, b"x")?)?;
+    Ok(Formula::Collected(HERE, collector, names, test, value))
 }
 
 fn row(alloc: Global, head: Formula, form: After) -> Result<Formula, AllocError> {
@@ -78,88 +79,144 @@ fn row(alloc: Global, head: Formula, form: After) -> Result<Formula, AllocError>
     Ok(Formula::Row(Boxed::new(alloc, head)?, forms))
 }
 
+// 1 - (2 - 3)
+fn right_difference(alloc: Global) -> Result<Formula, AllocError> {
+    let inner = two(alloc, number(2), Operator::Minus, number(3))?;
+    two(alloc, number(1), Operator::Minus, inner)
+}
+
+// (1 - 2) - 3
+fn left_difference(alloc: Global) -> Result<Formula, AllocError> {
+    let inner = two(alloc, number(1), Operator::Minus, number(2))?;
+    two(alloc, inner, Operator::Minus, number(3))
+}
+
+// 1 * 2 + 3
+fn sum_of_product(alloc: Global) -> Result<Formula, AllocError> {
+    let inner = two(alloc, number(1), Operator::Times, number(2))?;
+    two(alloc, inner, Operator::Plus, number(3))
+}
+
+// -2 ** 2
+fn power_of_negative(alloc: Global) -> Result<Formula, AllocError> {
+    let inner = minus(alloc, number(2))?;
+    two(alloc, inner, Operator::Power, number(2))
+}
+
+// (r ; s)
+fn composition(alloc: Global) -> Result<Formula, AllocError> {
+    let left = name(alloc, b"r")?;
+    let right = name(alloc, b"s")?;
+    two(alloc, left, Operator::Composition, right)
+}
+
 #[test]
 fn chains(rt: HostRuntime) -> Result<(), Fail> {
     let alloc = rt.alloc();
-    let difference = two(alloc, number(2), Operator::Minus, number(3))?;
-    let right = two(alloc, number(1), Operator::Minus, difference)?;
-    prints(&rt, alloc, right, b"1 - (2 - 3)")?;
-    let difference = two(alloc, number(1), Operator::Minus, number(2))?;
-    let left = two(alloc, difference, Operator::Minus, number(3))?;
-    prints(&rt, alloc, left, b"(1 - 2) - 3")?;
-    let product = two(alloc, number(1), Operator::Times, number(2))?;
-    let sum = two(alloc, product, Operator::Plus, number(3))?;
-    prints(&rt, alloc, sum, b"1 * 2 + 3")?;
-    let negative = minus(alloc, number(2))?;
-    let power = two(alloc, negative, Operator::Power, number(2))?;
-    prints(&rt, alloc, power, b"-2 ** 2")?;
-    let relations = two(
-        alloc,
-        name(alloc, b"r")?,
-        Operator::Composition,
-        name(alloc, b"s")?,
-    )?;
-    prints(&rt, alloc, relations, b"(r ; s)")?;
+    prints(&rt, alloc, right_difference(alloc)?, b"1 - (2 - 3)")?;
+    prints(&rt, alloc, left_difference(alloc)?, b"(1 - 2) - 3")?;
+    prints(&rt, alloc, sum_of_product(alloc)?, b"1 * 2 + 3")?;
+    prints(&rt, alloc, power_of_negative(alloc)?, b"-2 ** 2")?;
+    prints(&rt, alloc, composition(alloc)?, b"(r ; s)")?;
     Ok(())
+}
+
+fn quoted(alloc: Global) -> Result<Formula, AllocError> {
+    Ok(Formula::Text(HERE, Items::from_slice(alloc, b"a\"\\\n\t")?))
+}
+
+// -(-x)
+fn twice_negative(alloc: Global) -> Result<Formula, AllocError> {
+    let inner = minus(alloc, name(alloc, b"x")?)?;
+    minus(alloc, inner)
+}
+
+// (f(1))(2)
+fn twice_applied(alloc: Global) -> Result<Formula, AllocError> {
+    let once = row(alloc, name(alloc, b"f")?, After::Apply(HERE, number(1)))?;
+    row(alloc, once, After::Apply(HERE, number(2)))
+}
+
+// r[S]
+fn image(alloc: Global) -> Result<Formula, AllocError> {
+    let set = name(alloc, b"S")?;
+    row(alloc, name(alloc, b"r")?, After::Image(HERE, set))
+}
+
+fn choice(alloc: Global) -> Result<Formula, AllocError> {
+    let test = Boxed::new(alloc, equation(alloc)?)?;
+    let first = Boxed::new(alloc, number(2))?;
+    let second = Boxed::new(alloc, Formula::Constant(HERE, Constant::MaxInt))?;
+    Ok(Formula::If(HERE, test, first, second))
 }
 
 #[test]
 fn operands(rt: HostRuntime) -> Result<(), Fail> {
     let alloc = rt.alloc();
+    let empty = Formula::Sequence(HERE, Items::new(alloc));
+    prints(&rt, alloc, empty, b"[]")?;
+    prints(&rt, alloc, quoted(alloc)?, b"\"a\\\"\\\\\\n\\t\"")?;
+    prints(&rt, alloc, twice_negative(alloc)?, b"-(-x)")?;
+    prints(&rt, alloc, twice_applied(alloc)?, b"(f(1))(2)")?;
+    prints(&rt, alloc, image(alloc)?, b"r[S]")?;
     prints(
         &rt,
         alloc,
-        Formula::Sequence(HERE, Items::new(alloc)),
-        b"[]",
+        choice(alloc)?,
+        b"IF x = 1 THEN 2 ELSE MAXINT END",
     )?;
-    let text = Formula::Text(HERE, Items::from_slice(alloc, b"a\"\\\n\t")?);
-    prints(&rt, alloc, text, b"\"a\\\"\\\\\\n\\t\"")?;
-    let twice = minus(alloc, minus(alloc, name(alloc, b"x")?)?)?;
-    prints(&rt, alloc, twice, b"-(-x)")?;
-    let once = row(alloc, name(alloc, b"f")?, After::Apply(HERE, number(1)))?;
-    let twice = row(alloc, once, After::Apply(HERE, number(2)))?;
-    prints(&rt, alloc, twice, b"(f(1))(2)")?;
-    let image = row(
-        alloc,
-        name(alloc, b"r")?,
-        After::Image(HERE, name(alloc, b"S")?),
-    )?;
-    prints(&rt, alloc, image, b"r[S]")?;
-    let choice = Formula::If(
-        HERE,
-        Boxed::new(alloc, equation(alloc)?)?,
-        Boxed::new(alloc, number(2))?,
-        Boxed::new(alloc, Formula::Constant(HERE, Constant::MaxInt))?,
-    );
-    prints(&rt, alloc, choice, b"IF x = 1 THEN 2 ELSE MAXINT END")?;
+    Ok(())
+}
+
+// {x,y | x = 1}
+fn pairs(alloc: Global) -> Result<Formula, AllocError> {
+    let names = bound(alloc, &[b"x", b"y"])?;
+    let body = Boxed::new(alloc, equation(alloc)?)?;
+    Ok(Formula::Comprehension(HERE, names, body))
+}
+
+// #x.(x = 1)
+fn some(alloc: Global) -> Result<Formula, AllocError> {
+    let names = bound(alloc, &[b"x"])?;
+    let body = Boxed::new(alloc, equation(alloc)?)?;
+    Ok(Formula::Quantified(HERE, Quantifier::Exists, names, body))
+}
+
+// !(x,y).(x = 1)
+fn all(alloc: Global) -> Result<Formula, AllocError> {
+    let names = bound(alloc, &[b"x", b"y"])?;
+    let body = Boxed::new(alloc, equation(alloc)?)?;
+    Ok(Formula::Quantified(HERE, Quantifier::ForAll, names, body))
+}
+
+fn prints_collected(
+    rt: &impl Abort,
+    alloc: Global,
+    collector: Collector,
+    text: &[u8],
+) -> Result<(), AllocError> {
+    prints(rt, alloc, collected(alloc, collector)?, text)
+}
+
+#[test]
+fn collectors(rt: HostRuntime) -> Result<(), Fail> {
+    let alloc = rt.alloc();
+    prints_collected(&rt, alloc, Collector::Lambda, b"%x.(x : 1 .. 2 | x)")?;
+    prints_collected(&rt, alloc, Collector::Sum, b"SIGMA(x).(x : 1 .. 2 | x)")?;
+    prints_collected(&rt, alloc, Collector::Product, b"PI(x).(x : 1 .. 2 | x)")?;
+    prints_collected(&rt, alloc, Collector::Union, b"UNION(x).(x : 1 .. 2 | x)")?;
+    prints_collected(&rt, alloc, Collector::Inter, b"INTER(x).(x : 1 .. 2 | x)")?;
     Ok(())
 }
 
 #[test]
 fn binders(rt: HostRuntime) -> Result<(), Fail> {
     let alloc = rt.alloc();
-    let rows: [(Collector, &[u8]); 5] = [
-        (Collector::Lambda, b"%x.(x : 1 .. 2 | x)"),
-        (Collector::Sum, b"SIGMA(x).(x : 1 .. 2 | x)"),
-        (Collector::Product, b"PI(x).(x : 1 .. 2 | x)"),
-        (Collector::Union, b"UNION(x).(x : 1 .. 2 | x)"),
-        (Collector::Inter, b"INTER(x).(x : 1 .. 2 | x)"),
-    ];
-    for (collector, text) in rows {
-        prints(&rt, alloc, collected(alloc, collector)?, text)?;
-    }
-    let names = bound(alloc, &[b"x", b"y"])?;
-    let pairs = Formula::Comprehension(HERE, names, Boxed::new(alloc, equation(alloc)?)?);
-    prints(&rt, alloc, pairs, b"{x,y | x = 1}")?;
-    let names = bound(alloc, &[b"x"])?;
-    let body = Boxed::new(alloc, equation(alloc)?)?;
-    let some = Formula::Quantified(HERE, Quantifier::Exists, names, body);
-    let printed = print_pred(alloc, &Pred { formula: some })?;
+    prints(&rt, alloc, pairs(alloc)?, b"{x,y | x = 1}")?;
+    prints(&rt, alloc, all(alloc)?, b"!(x,y).(x = 1)")?;
+    let formula = some(alloc)?;
+    let printed = print_pred(alloc, &Pred { formula })?;
     assert_eq!(rt; printed.as_slice(), b"#x.(x = 1)".as_slice());
-    let names = bound(alloc, &[b"x", b"y"])?;
-    let body = Boxed::new(alloc, equation(alloc)?)?;
-    let all = Formula::Quantified(HERE, Quantifier::ForAll, names, body);
-    prints(&rt, alloc, all, b"!(x,y).(x = 1)")?;
     Ok(())
 }
 
